@@ -1,0 +1,210 @@
+-- The loops that make the tables, a turn at a time.
+-- Assumes nothing.
+use mathlib.Core.Path.{_≡_, refl, sym, ap, ap₂, _∙_}
+use mathlib.Core.List.{List}
+use mathlib.Core.Logic.{dite, _≢_}
+use Prim.Native.Nat.{ℕ, zero, suc, _+_, _-_, _*_, _^_, _≤_, _<_}
+use native.Mathlib.Nat.{pow-suc, add-zero}
+use native.Mathlib.Decide.{decLt}
+use native.Mathlib.Numerals.{add-one}
+use native.Mathlib.Omega.{arith}
+use lib.Bits.{bitXor}
+use lib.ListN.{length, getD, set, replicate}
+use lib.Pow.{pow-mono}
+use lib.Seq.{getD-set-same, getD-set-other}
+use Rattle.field.specs.declared.degree.Degree.{Degree}
+use Rattle.field.specs.Degree.{size, order}
+use Rattle.field.specs.Field.{timesPower, power}
+use Rattle.field.specs.Syndrome.{sumOver, digits}
+use Rattle.field.specs.Tables.{Powers, Weights, Logs, Tables, weight}
+use Rattle.field.specs.Building.{Doubled, Block, Summed}
+use Rattle.field.proofs.Doubling.{times-add}
+use Rattle.field.proofs.Primitive.{primitive}
+use Rattle.field.proofs.Sums.{sum-cong, digits-length, sum-digits-zero, sum-top}
+use Rattle.field.proofs.Weights.{power-small, weight-below, weight-last, weight-past}
+
+-- ---- the empty table
+
+-- an array of zeros holds 0 at every index
+pub zeros-at : (n i : ℕ) → _≡_ {A = ℕ} (getD (replicate n 0) i 0) 0
+zeros-at zero i = refl
+zeros-at (suc n) zero = refl
+zeros-at (suc n) (suc i) = zeros-at n i
+
+-- ---- weights
+
+-- the weights of the cells below i are put, nothing else is
+pub record WeightsTo (d : Degree) (i : ℕ) (t : List ℕ) : Type 0 where
+  pub below : (k : ℕ) → k < i → getD t k 0 ≡ weight d k
+  pub above : (k : ℕ) → i ≤ k → getD t k 0 ≡ 0
+
+module _ (d : Degree) where
+  -- a power of the table is below 64
+  pub powers-small : (ps : List ℕ) → Powers d ps → (i : ℕ) → i < order d → getD ps i 0 < 64
+  powers-small ps p i h = rw (p .at i h) (power-small d i)
+
+  -- three more in the exponent is the next cube
+  pub cube-next : (i cube r : ℕ) → power d cube ≡ power d (3 * i) → power d r ≡ power d (cube + 3) → power d r ≡ power d (3 * (i + 1))
+  cube-next i cube r e f =
+      let a : cube + 3 ≡ 3 + cube = omega arith in
+      let b : 3 + 3 * i ≡ 3 * (i + 1) = omega arith in
+      f ∙ ap (λ (k : ℕ). power d k) a ∙ times-add d 3 cube 1 ∙ ap (timesPower d 3) e ∙ sym (times-add d 3 (3 * i) 1)
+      ∙ ap (λ (k : ℕ). power d k) b
+
+  -- no weight is put yet
+  pub weights-start : (t : List ℕ) → ((i : ℕ) → getD t i 0 ≡ 0) → WeightsTo d 0 t
+  weights-start t z = record { below = λ k h. absurd (omega arith); above = λ k h. z k }
+
+  -- one weight more
+  pub weights-next : (ps t : List ℕ) (i cube : ℕ) → Powers d ps → i < order d → i < length t → cube < order d
+      → power d cube ≡ power d (3 * i) → WeightsTo d i t → WeightsTo d (i + 1) (set t i (getD ps i 0 + 128 * (getD ps cube 0 + 128)))
+  weights-next ps t i cube p h l hc e w = record {
+    below = λ k hk. dite (decLt k i)
+        (λ s. getD-set-other t i k _ 0 (λ z. omega arith) ∙ w .below k s)
+        (λ s.
+        let z : k ≡ i = omega arith in
+        rw z
+        (getD-set-same t i _ 0 l ∙ ap₂ (λ (x y : ℕ). x + 128 * (y + 128)) (p .at i h) (p .at cube hc ∙ e) ∙ sym (weight-below d i h)));
+    above = λ k hk. getD-set-other t i k _ 0 (λ z. omega arith) ∙ w .above k (omega arith);
+  }
+
+  -- the last cell counts for the parity alone
+  pub weights-done : (t : List ℕ) → length t ≡ 2176 → WeightsTo d (order d) t → Weights d (set t (order d) 16384)
+  weights-done t l w k h =
+      dite (decLt k (order d)) (λ s. getD-set-other t (order d) k 16384 0 (λ z. omega arith) ∙ w .below k s)
+      (λ s. dite (decLt (order d) k)
+      (λ r. getD-set-other t (order d) k 16384 0 (λ z. omega arith) ∙ w .above k (omega arith) ∙ sym (weight-past d k (omega arith)))
+      (λ r.
+      let z : k ≡ order d = omega arith in
+      rw z (getD-set-same t (order d) 16384 0 (omega (arith, primitive d .room)) ∙ sym (weight-last d))))
+
+-- ---- logarithms
+
+-- the numbers below i are put behind their powers; all below 64 stands
+pub record LogsTo (ps a : List ℕ) (i : ℕ) (t : List ℕ) : Type 0 where
+  pub made : (k : ℕ) → k < i → getD t (64 + getD ps k 0) 0 ≡ k
+  pub kept : (k : ℕ) → k < 64 → getD t k 0 ≡ getD a k 0
+
+-- no number is put yet
+pub logs-start : (ps a : List ℕ) → LogsTo ps a 0 a
+logs-start ps a = record { made = λ k h. absurd (omega arith); kept = λ k h. refl }
+
+module _ (d : Degree) where
+  -- no two powers are equal, so no entry is put twice
+  pub logs-next : (ps a t : List ℕ) (i : ℕ) → Powers d ps → i < order d → 64 + getD ps i 0 < length t
+      → LogsTo ps a i t → LogsTo ps a (i + 1) (set t (64 + getD ps i 0) i)
+  logs-next ps a t i p h l w = record {
+    made = λ k hk. dite (decLt k i)
+        (λ s. getD-set-other t (64 + getD ps i 0) (64 + getD ps k 0) i 0 (λ z. apart k s (omega arith)) ∙ w .made k s)
+        (λ s. let z : k ≡ i = omega arith in rw z (getD-set-same t (64 + getD ps i 0) i 0 l));
+    kept = λ k hk. getD-set-other t (64 + getD ps i 0) k i 0 (λ z. omega arith) ∙ w .kept k hk;
+  }
+    where
+      apart : (k : ℕ) → k < i → getD ps k 0 ≢ getD ps i 0
+      apart k s z =
+          let hk : k < order d = omega arith in
+          let e : k ≡ i = primitive d .once hk h (sym (p .at k hk) ∙ z ∙ p .at i h) in
+          omega arith
+
+  -- all numbers are put, and the weights stand
+  pub logs-done : (ps a t : List ℕ) → Powers d ps → Weights d a → LogsTo ps a (order d) t → Weights d t × Logs d t
+  logs-done ps a t p w l =
+      (λ k h. l .kept k h ∙ w k h, λ k h. ap (λ (x : ℕ). getD t (64 + x) 0) (sym (p .at k h)) ∙ l .made k h)
+
+-- ---- doubling
+
+-- nothing is made yet
+pub double-start : (base size weight : ℕ) (a : List ℕ) → Doubled base size weight 0 a a
+double-start base size weight a = record { made = λ x h. absurd (omega arith); kept = λ i h. refl }
+
+-- one entry more
+pub double-next : (base size weight k : ℕ) (a b : List ℕ) → base + size + k < length b → k < size → Doubled base size weight k a b
+    → Doubled base size weight (k + 1) a (set b (base + size + k) (bitXor (getD b (base + k) 0) weight))
+double-next base size weight k a b l h d = record {
+  made = λ x hx. dite (decLt x k)
+      (λ s. getD-set-other b (base + size + k) (base + size + x) _ 0 (λ z. omega arith) ∙ d .made x s)
+      (λ s.
+      let z : x ≡ k = omega arith in
+      rw z (getD-set-same b (base + size + k) _ 0 l ∙ ap (λ (n : ℕ). bitXor n weight) (d .kept (base + k) (omega arith))));
+  kept = λ i hi. getD-set-other b (base + size + k) i _ 0 (λ z. omega arith) ∙ d .kept i hi;
+}
+
+-- ---- a block
+
+-- as the loop begins, once the first entry is set
+pub block-start : (first base : ℕ) (a : List ℕ) → base < length a → Block first base 1 (set a base 0) (set a base 0)
+block-start first base a l = record {
+  made = λ x h.
+      let z : x ≡ 0 = omega arith in
+      rw (z, add-zero) (getD-set-same a base 0 0 l ∙ sym (sum-digits-zero (λ i. getD (set a base 0) (first + i) 0) 8));
+  kept = λ i h. refl;
+}
+
+-- one bit more of a byte doubles what is made
+pub block-next : (first base b size : ℕ) (a t u : List ℕ) → b < 8 → size ≡ 2 ^ b → first + 8 ≤ base → Block first base size a t
+    → Doubled base size (getD t (first + b) 0) size t u → Block first base (size * 2) a u
+block-next first base b size a t u l e f h d = record {
+  made = λ x hx. dite (decLt x size)
+      (λ s. d .kept (base + x) (omega arith) ∙ h .made x s)
+      (λ s.
+      let y : ℕ = x - size in
+      let z : x ≡ size + y = omega (arith, s) in
+      let less : y < size = omega (arith, s) in
+      let q : base + (size + y) ≡ base + size + y = omega arith in
+      let small : y < 2 ^ b = omega arith in
+      let F : ℕ → ℕ = λ i. getD a (first + i) 0 in
+      rw (z, q)
+      (d .made y less ∙ ap₂ bitXor (h .made y less) (h .kept (first + b) (omega arith)) ∙ sym (sum-top F 8 b y l small)
+      ∙ ap (λ (n : ℕ). sumOver F (digits 8 (n + y))) (sym e)));
+  kept = λ i hi. d .kept i (omega arith) ∙ h .kept i hi;
+}
+
+-- a doubled part still fits a block
+pub double-room : (b size : ℕ) → b < 8 → size ≡ 2 ^ b → size * 2 ≤ 256
+double-room b size h e = let p : 2 ^ suc b ≤ 2 ^ 8 = pow-mono h in omega (arith, pow-suc 2 b)
+
+-- and its size is the next power of 2
+pub double-size : (b size : ℕ) → size ≡ 2 ^ b → size * 2 ≡ 2 ^ (b + 1)
+double-size b size e = rw (add-one, pow-suc 2 b, e)
+
+-- the entries that a block sums, where they are equal
+sum-entries : (a b : List ℕ) (first x : ℕ) → ((i : ℕ) → i < 8 → getD a (first + i) 0 ≡ getD b (first + i) 0)
+    → sumOver (λ i. getD a (first + i) 0) (digits 8 x) ≡ sumOver (λ i. getD b (first + i) 0) (digits 8 x)
+sum-entries a b first x h =
+    sum-cong (λ i. getD a (first + i) 0) (λ i. getD b (first + i) 0) (digits 8 x) (λ i l. h i (omega (arith, digits-length 8 x)))
+
+-- the first entry that was set is no other's
+pub block-kept : (first base k v : ℕ) (a b : List ℕ) → first + 8 ≤ base → Block first base k (set a base v) b → Block first base k a b
+block-kept first base k v a b f h = record {
+  made = λ x l. h .made x l ∙ sum-entries (set a base v) a first x (λ i hi. getD-set-other a base (first + i) v 0 (λ z. omega arith));
+  kept = λ i l. h .kept i l ∙ getD-set-other a base i v 0 (λ z. omega arith);
+}
+
+-- ---- all blocks
+
+-- no block is made yet
+pub summed-start : (a : List ℕ) → Summed 0 a a
+summed-start a = record { made = λ j x h l. absurd (omega arith); kept = λ i h. refl }
+
+-- one block more
+pub summed-next : (j : ℕ) (a t u : List ℕ) → j < 8 → Summed j a t → Block (j * 8) (128 + j * 256) 256 t u → Summed (j + 1) a u
+summed-next j a t u l h b = record {
+  made = λ i x hi hx. dite (decLt i j)
+      (λ s. b .kept (128 + i * 256 + x) (omega arith) ∙ h .made i x s hx)
+      (λ s.
+      let z : i ≡ j = omega arith in
+      rw z (b .made x hx ∙ sum-entries t a (j * 8) x (λ i hi. h .kept (j * 8 + i) (omega arith))));
+  kept = λ i hi. b .kept i (omega arith) ∙ h .kept i hi;
+}
+
+-- all tables stand
+pub tables-done : (d : Degree) (a t : List ℕ) → length t ≡ 2176 → Weights d a → Logs d a → Summed 8 a t → Tables d t
+tables-done d a t l w g s = record {
+  long = l;
+  weights = λ i h. s .kept i (omega arith) ∙ w i h;
+  logs = λ i h. s .kept (64 + power d i) (omega (arith, power-small d i)) ∙ g i h;
+  sums = λ j x hj hx.
+      s .made j x hj hx
+      ∙ sum-cong (λ i. getD a (j * 8 + i) 0) (λ i. weight d (j * 8 + i)) (digits 8 x)
+      (λ i hi. w (j * 8 + i) (omega (arith, digits-length 8 x)));
+}

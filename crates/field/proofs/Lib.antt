@@ -1,0 +1,12 @@
+pub mod Doubling
+pub mod Primitive
+pub mod Powers
+pub mod Products
+pub mod Uniqueness
+pub mod PowerTable
+pub mod Sums
+pub mod Weights
+pub mod Filling
+pub mod Reading
+pub mod Locating
+pub mod Search

@@ -1,0 +1,97 @@
+-- The polynomial of each degree is primitive: one test a degree, which the checker computes, and what it says.
+-- A further degree adds a line to `passes`.
+-- Assumes nothing.
+use mathlib.Core.Path.{_≡_, refl, sym, ap, _∙_}
+use mathlib.Core.Bool.{Bool, true, false, _&&_}
+use mathlib.Core.Logic.{_≢_}
+use Prim.Native.Nat.{ℕ, zero, suc, _<_, _≤_}
+use native.Mathlib.Omega.{arith}
+use lib.Dec.{T, eqb, ltb, leb, eqb→eq, ltb→lt, leb→le}
+use Rattle.laws.proofs.Tests.{and-left, and-right, every, every-at}
+use Rattle.field.specs.declared.degree.Degree.{Degree}
+use Rattle.field.specs.declared.degree.Degree.the-variants.{Four, Six}
+use Rattle.field.specs.Degree.{bits, size, order, polynomial}
+use Rattle.field.specs.Field.{double, timesPower, power, productOf}
+
+pub record Primitive (d : Degree) : Type 0 where
+  -- doubling an element gives an element
+  pub stays : {x : ℕ} → x < size d → double d x < size d
+  -- every element but 0 is a power
+  pub found : (x : ℕ) → x < size d → x ≢ 0 → (i : ℕ) × (i < order d) × (power d i ≡ x)
+  -- and just one power below n - 1
+  pub once : {i j : ℕ} → i < order d → j < order d → power d i ≡ power d j → i ≡ j
+  -- α^(n - 1) is 1
+  pub closes : power d (order d) ≡ 1
+  -- the polynomial is 0 at α
+  pub root : productOf d (suc (bits d)) (polynomial d) 1 ≡ 0
+  -- 0 and 1 are different elements, and an element has at most 6 binary digits
+  pub more : 1 < size d
+  pub room : size d ≤ 64
+  -- there are at least three powers
+  pub three : 3 ≤ order d
+
+module _ (d : Degree) where
+  -- the first i below k with α^i y equal to x
+  abbrev logFrom : ℕ → ℕ → ℕ → ℕ
+  logFrom zero y x = 0
+  logFrom (suc k) y x = elim (eqb y x) [ true ↦ 0 | false ↦ suc (logFrom k (double d y) x) ]
+
+  abbrev log : ℕ → ℕ
+  log x = logFrom (size d) 1 x
+
+  abbrev stays? : ℕ → Bool
+  stays? x = ltb (double d x) (size d)
+
+  abbrev found? : ℕ → Bool
+  found? y = ltb (log (suc y)) (order d) && eqb (power d (log (suc y))) (suc y)
+
+  abbrev once? : ℕ → Bool
+  once? i = eqb (log (power d i)) i
+
+  abbrev small? : Bool
+  small? = ltb 1 (size d) && (leb (size d) 64 && leb 3 (order d))
+
+  abbrev root? : Bool
+  root? = eqb (power d (order d)) 1 && eqb (productOf d (suc (bits d)) (polynomial d) 1) 0
+
+  unfoldable primitive? : Bool
+  primitive? = every stays? (size d) && (every found? (order d) && (every once? (order d) && (small? && root?)))
+
+  found-at : T (every found? (order d)) → (x : ℕ) → x < size d → x ≢ 0 → (i : ℕ) × (i < order d) × (power d i ≡ x)
+  found-at t zero h f = absurd (f refl)
+  found-at t (suc y) h f =
+      let b = every-at found? (order d) t {k = y} (omega arith) in
+      let i = log (suc y) in (
+        i,
+        ltb→lt i (order d) (and-left (ltb i (order d)) (eqb (power d i) (suc y)) b),
+        eqb→eq (power d i) (suc y) (and-right (ltb i (order d)) (eqb (power d i) (suc y)) b),
+      )
+
+  once-at : T (every once? (order d)) → {i : ℕ} → i < order d → log (power d i) ≡ i
+  once-at t {i} h = eqb→eq (log (power d i)) i (every-at once? (order d) t h)
+
+  -- what the test says
+  told : T primitive? → Primitive d
+  unfolding primitive?
+  told t =
+      let stay : T (every stays? (size d)) = search (and-left, and-right) in
+      let find : T (every found? (order d)) = search (and-left, and-right) in
+      let one : T (every once? (order d)) = search (and-left, and-right) in
+      record {
+        stays = λ {x} h. ltb→lt (double d x) (size d) (every-at stays? (size d) stay h);
+        found = found-at find;
+        once = λ {i} {j} hi hj e. sym (once-at one {i = i} hi) ∙ ap log e ∙ once-at one {i = j} hj;
+        closes = eqb→eq (power d (order d)) 1 (search (and-left, and-right));
+        root = eqb→eq (productOf d (suc (bits d)) (polynomial d) 1) 0 (search (and-left, and-right));
+        more = ltb→lt 1 (size d) (search (and-left, and-right));
+        room = leb→le (size d) 64 (search (and-left, and-right));
+        three = leb→le 3 (order d) (search (and-left, and-right) depth 8);
+      }
+
+passes : (d : Degree) → T (primitive? d)
+unfolding primitive? double timesPower productOf
+passes Four = tt
+passes Six = tt
+
+pub primitive : (d : Degree) → Primitive d
+primitive d = told d (passes d)

@@ -1,0 +1,28 @@
+-- The field of n elements. Document 01, "The code": the field is made by a root α of the polynomial, over two elements.
+-- An element is a number below n whose bit i is the coefficient of α^i; the sum of two elements is their exclusive or.
+use Prim.Native.Nat.{ℕ, zero, suc, _*_, _/_, _%_}
+use lib.Bits.{bitXor}
+use Rattle.field.specs.declared.degree.Degree.{Degree}
+use Rattle.field.specs.Degree.{bits, size, polynomial}
+
+-- x times α: shifted by one, and the polynomial, which is 0, added where α^v came up
+unfoldable pub double : Degree → ℕ → ℕ
+double d x = bitXor (x * 2) (x * 2 / size d % 2 * polynomial d)
+
+-- x times α^i: doubled i times
+unfoldable pub timesPower : Degree → ℕ → ℕ → ℕ
+timesPower d zero x = x
+timesPower d (suc i) x = double d (timesPower d i x)
+
+-- α^i
+abbrev pub power : Degree → ℕ → ℕ
+power d i = timesPower d i 1
+
+-- y times the k lowest coefficients of x: the sum of y α^i over the bits i of x
+unfoldable pub productOf : Degree → ℕ → ℕ → ℕ → ℕ
+productOf d zero x y = 0
+productOf d (suc k) x y = bitXor (x % 2 * y) (productOf d k (x / 2) (double d y))
+
+-- x times y
+abbrev pub product : Degree → ℕ → ℕ → ℕ
+product d x y = productOf d (bits d) x y

@@ -1,0 +1,42 @@
+-- The error positions that belong to the first two check sums s1 and s3: none, one or two cells below n - 1 whose flips
+-- would make both sums 0, or the answer that no such cells fit.
+use mathlib.Core.Bool.{true, false, _&&_}
+use Prim.Native.Nat.{ℕ, zero, suc, _*_}
+use lib.Bits.{bitXor}
+use lib.Dec.{eqb}
+use Rattle.field.specs.declared.degree.Degree.{Degree}
+use Rattle.field.specs.declared.locate.Positions.{Positions}
+use Rattle.field.specs.declared.locate.Positions.the-variants.{Zero, One, Two, Unfit}
+use Rattle.field.specs.Degree.{order}
+use Rattle.field.specs.Field.{power}
+
+-- the sum of f over the positions
+abbrev pub total : (ℕ → ℕ) → Positions → ℕ
+total f Zero = 0
+total f (One i) = f i
+total f (Two i j) = bitXor (f i) (f j)
+total f Unfit = 0
+
+-- the positions, where their sums are s1 and s3
+unfoldable pub fitting : Degree → ℕ → ℕ → Positions → Positions
+fitting d s1 s3 p =
+    elim (eqb (total (λ i. power d i) p) s1 && eqb (total (λ i. power d (3 * i)) p) s3) [ true ↦ p | false ↦ Unfit ]
+
+-- the first that fits
+abbrev pub orElse : Positions → Positions → Positions
+orElse Zero q = Zero
+orElse (One i) q = One i
+orElse (Two i j) q = Two i j
+orElse Unfit q = q
+
+-- the first that fits among p 0 .. p (n - 1)
+unfoldable pub firstOf : (ℕ → Positions) → ℕ → Positions
+firstOf p zero = Unfit
+firstOf p (suc n) = orElse (firstOf p n) (p n)
+
+-- no position; else one position i; else two positions i < j; else none fit
+unfoldable pub located : Degree → ℕ → ℕ → Positions
+located d s1 s3 =
+    orElse (fitting d s1 s3 Zero)
+    (orElse (firstOf (λ i. fitting d s1 s3 (One i)) (order d))
+    (firstOf (λ j. firstOf (λ i. fitting d s1 s3 (Two i j)) j) (order d)))

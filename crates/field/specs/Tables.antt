@@ -1,0 +1,45 @@
+-- What the tables of a degree hold. They are made once and lent; the functions that read them ask for `Tables` by name, and
+-- nothing here has to be believed to read their results.
+use mathlib.Core.Path.{_≡_}
+use mathlib.Core.Bool.{true, false}
+use mathlib.Core.List.{List}
+use Prim.Native.Nat.{ℕ, _+_, _*_, _<_}
+use lib.Dec.{ltb}
+use lib.ListN.{length, getD}
+use Rattle.field.specs.declared.degree.Degree.{Degree}
+use Rattle.field.specs.Degree.{size, order}
+use Rattle.field.specs.Field.{power}
+use Rattle.field.specs.Syndrome.{sumOver, digits}
+
+-- the fixed table of powers
+pub record Powers (d : Degree) (ps : List ℕ) : Type 0 where
+  pub long : length ps ≡ order d
+  pub at : (i : ℕ) → i < order d → getD ps i 0 ≡ power d i
+
+-- f at the cells below m, 0 past them
+unfoldable pub upTo : ℕ → (ℕ → ℕ) → ℕ → ℕ
+upTo m f i = elim (ltb i m) [ true ↦ f i | false ↦ 0 ]
+
+-- the check sums of a word whose one 1 is cell i, side by side in one number: s1 in 7 binary digits, s3 in the next 7, the
+-- parity above them
+unfoldable pub weight : Degree → ℕ → ℕ
+weight d i =
+    upTo (order d) (λ i. power d i) i + 128 * (upTo (order d) (λ i. power d (3 * i)) i + 128 * upTo (size d) (λ i. 1) i)
+
+-- entry i, for each cell i: its weight
+abbrev pub Weights : Degree → List ℕ → Type 0
+Weights d t = (i : ℕ) → i < 64 → getD t i 0 ≡ weight d i
+
+-- entry 64 + α^i: the number i
+abbrev pub Logs : Degree → List ℕ → Type 0
+Logs d t = (i : ℕ) → i < order d → getD t (64 + power d i) 0 ≡ i
+
+-- entry 128 + 256 j + x, for j below k: the weights of the cells 8 j + i, summed over the bits i of x
+abbrev pub Sums : Degree → ℕ → List ℕ → Type 0
+Sums d k t = (j x : ℕ) → j < k → x < 256 → getD t (128 + j * 256 + x) 0 ≡ sumOver (λ i. weight d (j * 8 + i)) (digits 8 x)
+
+pub record Tables (d : Degree) (t : List ℕ) : Type 0 where
+  pub long : length t ≡ 2176
+  pub weights : Weights d t
+  pub logs : Logs d t
+  pub sums : Sums d 8 t

@@ -1,0 +1,191 @@
+// The powers of α, and the tables that are made of them: once for a decoding, then lent to the functions that read them.
+use crate::degree::Degree;
+use crate::degree::order_of;
+ghost use mathlib.Core.Path.{_≡_};
+ghost use Prim.Native.Nat.{ℕ, _+_, _*_, _<_, _≤_};
+ghost use lib.ListN.{length, getD};
+ghost use Rattle.field.specs.Degree.{order};
+ghost use Rattle.field.specs.Field.{power};
+ghost use Rattle.field.specs.Tables.{Powers, Weights, Logs, Tables};
+ghost use Rattle.field.specs.Building.{Doubled, Block, Summed};
+
+// The tables of a degree in one array: 64 weights, 64 logarithms, and 8 blocks of 256 sums of weights.
+pub type FieldTables = [u16; 2176];
+
+// α^0 to α^(n - 2). Every other table is made of these.
+const POWERS_FOUR: [u16; 15] = [1, 2, 4, 8, 3, 6, 12, 11, 5, 10, 7, 14, 15, 13, 9];
+
+const POWERS_SIX: [u16; 63] = [
+    1,
+    2,
+    4,
+    8,
+    16,
+    32,
+    3,
+    6,
+    12,
+    24,
+    48,
+    35,
+    5,
+    10,
+    20,
+    40,
+    19,
+    38,
+    15,
+    30,
+    60,
+    59,
+    53,
+    41,
+    17,
+    34,
+    7,
+    14,
+    28,
+    56,
+    51,
+    37,
+    9,
+    18,
+    36,
+    11,
+    22,
+    44,
+    27,
+    54,
+    47,
+    29,
+    58,
+    55,
+    45,
+    25,
+    50,
+    39,
+    13,
+    26,
+    52,
+    43,
+    21,
+    42,
+    23,
+    46,
+    31,
+    62,
+    63,
+    61,
+    57,
+    49,
+    33,
+];
+
+// The exponent below n - 1 with the same power: α^(n - 1) is 1.
+pub fn reduced(d: Degree, k: usize) -> usize
+    requires { ⌜ k < 2 * order d ⌝ }
+    ensures { λ r. ⌜ (r < order d) × (power d r ≡ power d k) ⌝ }
+{
+    let order = order_of(d);
+    if k < order {
+        return k;
+    }
+    k - order
+}
+
+// Entry i, for each cell i of a word: its weight. The last cell counts for the parity alone.
+fn put_weights(d: Degree, powers: &[u16], table: &mut [u16])
+    requires { ⌜ Powers d (now powers) × (length (now table) ≡ 2176) × ((i : ℕ) → getD (now table) i 0 ≡ 0) ⌝ }
+    ensures { λ _. ⌜ Weights d (now (table .exit)) ⌝ }
+{
+    let order = order_of(d);
+    let mut i = 0;
+    let mut cube = 0; // the exponent below n - 1 of the cube of α^i
+    while i < order {
+        table[i] = powers[i] + 128 * (powers[cube] + 128);
+        cube = reduced(d, cube + 3);
+        i += 1;
+    }
+    table[order] = 16384;
+}
+
+// Entry 64 + α^i: the number i.
+fn put_logs(d: Degree, powers: &[u16], table: &mut [u16])
+    requires { ⌜ Powers d (now powers) × (length (now table) ≡ 2176) × Weights d (now table) ⌝ }
+    ensures { λ _. ⌜ Weights d (now (table .exit)) × Logs d (now (table .exit)) ⌝ }
+{
+    let order = order_of(d);
+    let mut i = 0;
+    while i < order {
+        table[64 + powers[i] as usize] = i as u16;
+        i += 1;
+    }
+}
+
+// The entries from `base` on, `size` of them, once more behind themselves, each with the weight added.
+fn double(table: &mut [u16], base: usize, size: usize, weight: u16)
+    requires { ⌜ base + 2 * size ≤ length (now table) ⌝ }
+    ensures { λ _. ⌜ Doubled base size weight size (now (table .entry)) (now (table .exit)) ⌝ }
+{
+    let mut x = 0;
+    while x < size {
+        table[base + size + x] = table[base + x] ^ weight;
+        x += 1;
+    }
+}
+
+// The 256 entries from `base` on: the sums of the eight weights from `first` on, over the bits of a byte.
+fn put_block(table: &mut [u16], base: usize, first: usize)
+    requires { ⌜ (base + 256 ≤ length (now table)) × (first + 8 ≤ base) ⌝ }
+    ensures { λ _. ⌜ Block first base 256 (now (table .entry)) (now (table .exit)) ⌝ }
+{
+    table[base] = 0;
+    let mut size = 1;
+    let mut b = 0;
+    while b < 8 {
+        let weight = table[first + b];
+        double(table, base, size, weight);
+        size *= 2;
+        b += 1;
+    }
+}
+
+// Block j, for the cells from 8 j on, stands from entry 128 + 256 j on.
+fn put_sums(table: &mut [u16])
+    requires { ⌜ length (now table) ≡ 2176 ⌝ }
+    ensures { λ _. ⌜ Summed 8 (now (table .entry)) (now (table .exit)) ⌝ }
+{
+    let mut j = 0;
+    while j < 8 {
+        put_block(table, 128 + j * 256, j * 8);
+        j += 1;
+    }
+}
+
+// All tables, from the powers.
+fn fill_tables(d: Degree, powers: &[u16], table: &mut [u16])
+    requires { ⌜ Powers d (now powers) × (length (now table) ≡ 2176) × ((i : ℕ) → getD (now table) i 0 ≡ 0) ⌝ }
+    ensures { λ _. ⌜ Tables d (now (table .exit)) ⌝ }
+{
+    put_weights(d, powers, table);
+    put_logs(d, powers, table);
+    put_sums(table);
+}
+
+// The tables of a degree. Each arm makes its own short table of powers, so that no table is chosen by value.
+pub fn make_tables(d: Degree) -> FieldTables
+    ensures { λ r. ⌜ Tables d r ⌝ }
+{
+    let mut table = [0; 2176];
+    match d {
+        Degree::Four => {
+            let powers = POWERS_FOUR;
+            fill_tables(d, &powers, &mut table);
+        }
+        Degree::Six => {
+            let powers = POWERS_SIX;
+            fill_tables(d, &powers, &mut table);
+        }
+    }
+    table
+}

@@ -1,0 +1,5 @@
+pub mod Xor
+pub mod Tests
+pub mod Bits
+pub mod Sums
+pub mod Masks

@@ -1,0 +1,36 @@
+-- Sums over the numbers below a bound.
+-- Assumes nothing.
+use mathlib.Core.Path.{_≡_, refl, ap₂, _∙_}
+use Prim.Native.Nat.{ℕ, zero, suc, _+_, _*_, _<_, _≤_}
+use native.Mathlib.Nat.{le-refl, mul-suc, zero-mul}
+use native.Mathlib.Omega.{arith}
+use Rattle.laws.specs.Sums.{sumTo}
+
+pub sum-ext : (f g : ℕ → ℕ) (n : ℕ) → ((i : ℕ) → i < n → f i ≡ g i) → sumTo f n ≡ sumTo g n
+unfolding sumTo
+sum-ext f g zero h = refl
+sum-ext f g (suc n) h = ap₂ (λ (x y : ℕ). x + y) (sum-ext f g n (λ i l. h i (omega arith))) (h n (le-refl (suc n)))
+
+pub sum-le : (f g : ℕ → ℕ) (n : ℕ) → ((k : ℕ) → k < n → f k ≤ g k) → sumTo f n ≤ sumTo g n
+unfolding sumTo
+sum-le f g zero h = omega arith
+sum-le f g (suc n) h = omega (arith, sum-le f g n (λ k l. h k (omega arith)), h n (le-refl (suc n)))
+
+pub sum-add : (f g : ℕ → ℕ) (n : ℕ) → sumTo (λ i. f i + g i) n ≡ sumTo f n + sumTo g n
+unfolding sumTo
+sum-add f g zero = refl
+sum-add f g (suc n) = omega (arith, sum-add f g n)
+
+pub sum-constant : (m n : ℕ) → sumTo (λ i. m) n ≡ m * n
+unfolding sumTo
+sum-constant m zero = omega arith
+sum-constant m (suc n) = rw mul-suc (omega (arith, sum-constant m n))
+
+pub sum-zero : (n : ℕ) → sumTo (λ i. 0) n ≡ 0
+sum-zero n = sum-constant 0 n ∙ zero-mul n
+
+-- the first term taken out
+pub sum-first : (f : ℕ → ℕ) (n : ℕ) → sumTo f (suc n) ≡ f 0 + sumTo (λ k. f (suc k)) n
+unfolding sumTo
+sum-first f zero = omega arith
+sum-first f (suc n) = omega (arith, sum-first f n)

@@ -1,0 +1,45 @@
+-- Tests that the checker computes, over all numbers below a bound or all entries of a table, and what a passed test says of each.
+-- Assumes nothing.
+use mathlib.Core.Path.{_≡_, _∙_, subst, sym}
+use mathlib.Core.Bool.{Bool, true, false, _&&_}
+use mathlib.Core.Logic.{_⊎_, inl, inr}
+use mathlib.Core.List.{List, [], _∷_}
+use Prim.Native.Nat.{ℕ, zero, suc, _<_}
+use native.Mathlib.Nat.{eq-or-lt-of-le, le-of-suc-le-suc, not-suc-le-zero, suc-inj}
+use native.Mathlib.Omega.{arith}
+use lib.Dec.{T}
+use lib.ListN.{length, getD}
+pub use Rattle.laws.specs.Tests.{every}
+
+pub and-left : (a b : Bool) → T (a && b) → T a
+and-left true b t = tt
+and-left false b t = t
+
+pub and-right : (a b : Bool) → T (a && b) → T b
+and-right true b t = t
+and-right false b t = absurd t
+
+-- what a test over the numbers below n says of each
+pub every-at : (f : ℕ → Bool) (n : ℕ) → T (every f n) → {k : ℕ} → k < n → T (f k)
+every-at f zero t h = absurd (not-suc-le-zero h)
+every-at f (suc n) t {k} h = pick (eq-or-lt-of-le (le-of-suc-le-suc h)) (every-at f n (and-right (f n) (every f n) t))
+  where
+    pick : (k ≡ n) ⊎ (k < n) → (k < n → T (f k)) → T (f k)
+    pick (inl e) ih = subst (λ (m : ℕ). T (f m)) (sym e) (and-left (f n) (every f n) t)
+    pick (inr l) ih = ih l
+
+-- the test passes at each list of n bits
+unfoldable pub everyBits : ℕ → (List ℕ → Bool) → Bool
+everyBits zero f = f []
+everyBits (suc n) f = everyBits n (λ bs. f (0 ∷ bs)) && everyBits n (λ bs. f (1 ∷ bs))
+
+pub every-bits-at : (n : ℕ) (f : List ℕ → Bool) → T (everyBits n f) → (bs : List ℕ) → length bs ≡ n → ((i : ℕ) → getD bs i 0 < 2) → T (f bs)
+unfolding everyBits
+every-bits-at zero f t [] e h = t
+every-bits-at zero f t (b ∷ bs) e h = absurd (omega arith)
+every-bits-at (suc n) f t [] e h = absurd (omega arith)
+every-bits-at (suc n) f t (zero ∷ bs) e h =
+    every-bits-at n (λ bs. f (0 ∷ bs)) (and-left (everyBits n (λ bs. f (0 ∷ bs))) (everyBits n (λ bs. f (1 ∷ bs))) t) bs (suc-inj e) (λ i. h (suc i))
+every-bits-at (suc n) f t (suc zero ∷ bs) e h =
+    every-bits-at n (λ bs. f (1 ∷ bs)) (and-right (everyBits n (λ bs. f (0 ∷ bs))) (everyBits n (λ bs. f (1 ∷ bs))) t) bs (suc-inj e) (λ i. h (suc i))
+every-bits-at (suc n) f t (suc (suc b) ∷ bs) e h = absurd (omega (arith, h 0))
