@@ -1,0 +1,64 @@
+-- Bounded-distance decoding in packed words: from the located positions and the parity to the answer.
+-- Assumes nothing.
+use mathlib.Core.Path.{_≡_, refl, sym, ap, ap₂, _∙_, subst}
+use mathlib.Core.Bool.{Bool, true, false, cond, not}
+use mathlib.Core.Logic.{_≢_}
+use mathlib.Core.List.{List}
+use Prim.Native.Nat.{ℕ, _<_}
+use native.Mathlib.Omega.{arith}
+use lib.Dec.{eqb}
+use Rattle.field.specs.declared.degree.Degree.{Degree}
+use Rattle.field.specs.declared.locate.Positions.{Positions}
+use Rattle.field.specs.declared.locate.Positions.the-variants.{Zero, One, Two, Unfit}
+use Rattle.field.specs.declared.syndrome.Syndrome.{Syndrome}
+use Rattle.field.specs.Degree.{size, order}
+use Rattle.field.specs.Syndrome.{s1, s3, parity, digits}
+use Rattle.field.specs.Checks.{IsSyndrome}
+use Rattle.field.specs.Fitting.{Within, Fits}
+use Rattle.field.specs.Positions.{located}
+use Rattle.field.proofs.Primitive.{primitive}
+use Rattle.field.proofs.Locating.{located-fits, located-none}
+use Rattle.line.specs.declared.bounded.Tried.{Tried}
+use Rattle.line.specs.Bounded.{flip, bounded}
+use Rattle.line.specs.Packed.{PacksWord}
+use Rattle.line.specs.Working.{Answers, failed, found, mended, Below}
+use Rattle.line.proofs.Mending.{answer-mends}
+use Rattle.line.proofs.RowLaws.{word-sums}
+
+pub last-below : (d : Degree) → order d < size d
+last-below d = omega (arith, primitive d .more)
+
+-- located positions are cells
+pub located-below : (d : Degree) (a b : ℕ) → Below (size d) (located d a b)
+located-below d a b = go (located d a b) (located-fits d a b)
+  where
+    go : (p : Positions) → (p ≢ Unfit → Fits d a b p) → Below (size d) p
+    go Zero f = tt
+    go (One i) f = let w = f (λ e. let z : _≡_ {A = ℕ} 0 1 = cc in omega arith) .within in omega (arith, last-below d)
+    go (Two i j) f = let w = f (λ e. let z : _≡_ {A = ℕ} 0 1 = cc in omega arith) .within in (omega (arith, last-below d), omega (arith, last-below d))
+    go Unfit f = tt
+
+-- ---- a word mended, for each kind of positions
+
+module _ (d : Degree) (ws : List ℕ) {t : Tried} where
+  pub zero-mended : (even : Bool) → t .found ≡ true → PacksWord (size d) (cond (not even) (flip (order d) ws) ws) (t .word) → Answers (size d) (mended d ws Zero even) t
+  zero-mended true e p = found e p
+  zero-mended false e p = found e p
+
+  pub one-mended : (i : ℕ) (even : Bool) → t .found ≡ true → PacksWord (size d) (flip i (cond even (flip (order d) ws) ws)) (t .word)
+      → Answers (size d) (mended d ws (One i) even) t
+  one-mended i true e p = found e p
+  one-mended i false e p = found e p
+
+  pub two-mended : (i j : ℕ) (even : Bool) → t .found ≡ even → PacksWord (size d) (flip i (flip j ws)) (t .word) → Answers (size d) (mended d ws (Two i j) even) t
+  two-mended i j true e p = found e p
+  two-mended i j false e p = failed e
+
+-- ---- the word's own check sums
+
+pub tried-bounded : (d : Degree) {ws : List ℕ} {w : ℕ} {t : Tried} {s : Syndrome} {p : Positions} → PacksWord (size d) ws w → IsSyndrome d (digits 64 w) s
+    → p ≡ located d (s .s1) (s .s3) → Answers (size d) (mended d ws p (eqb (s .parity) 0)) t → Answers (size d) (bounded d ws) t
+tried-bounded d {ws} {t} {s} {p} q c e a =
+    let sums : IsSyndrome d ws s = word-sums q c in
+    let l : p ≡ located d (s1 d ws) (s3 d ws) = e ∙ ap₂ (located d) (sums .s1) (sums .s3) in
+    rw (answer-mends d ws (q .cells) (located d (s1 d ws) (s3 d ws)) (located-fits d (s1 d ws) (s3 d ws)) (located-none d (s1 d ws) (s3 d ws)), ← l, ← sums .parity) a

@@ -1,0 +1,56 @@
+-- `line::entry::bounded_taken` meets its contract: the word is packed, tried, and made to hold what was found.
+-- Assumes nothing.
+use borrow.Author.Needs.{needs}
+use Rattle.line.specs.declared.cells.Side.the-variants.{One}
+use Rattle.line.proofs.CellLaws.{word-line}
+use Rattle.line.proofs.RowLaws.{packable, sized}
+use Rattle.line.proofs.EntryLaws.{filled-full}
+use Rattle.line.proofs.entry.bounded_taken.Statement.{statement}
+use Rattle.line.proofs.entry.bounded_taken.Tie as tie
+
+make-tables-requires : tie.Need-make-tables-requires
+make-tables-requires c κs = search needs
+
+pack-requires : tie.Need-pack-requires
+pack-requires c κs = let s = c .before .before .before in packable (s .args .d) (word-line (s .pre))
+
+fill-requires : tie.Need-fill-requires
+fill-requires c κs = search needs
+
+array-read-counted : tie.Need-array-read-counted
+array-read-counted c = search needs
+
+counted-requires : tie.Need-counted-requires
+counted-requires c κs = search needs
+
+answer-in-requires : tie.Need-answer-in-requires
+answer-in-requires c κs =
+    let s = c .before .before .before .before .before .before .before .before in
+    packable (s .args .d) (word-line (s .pre)) .1
+
+same-length : tie.Need-same-length
+same-length c = search needs
+
+returns : tie.Need-returns
+returns c =
+    let a = c .before .before in
+    let t = a .before .before in
+    let k = t .before .before .before in
+    let s = k .before .before .before .before in
+    let w = s .args .word .now in
+    let y = sized (s .pre .long) (k .pack .ensures) in
+    let full = rw (filled-full One w 0 (s .pre .small)) at (t .before .before .fill .ensures _ w y One) in
+    a .answer-in .ensures _ _ y (t .counted .ensures .1 w full)
+
+pub bounded-taken-spec : {M : Type 1} → statement M
+bounded-taken-spec =
+    tie.close
+    (tie.spec
+    make-tables-requires
+    pack-requires
+    fill-requires
+    array-read-counted
+    counted-requires
+    answer-in-requires
+    same-length
+    returns)

@@ -1,0 +1,52 @@
+-- `line::entry::decode_line` meets its contract: a call that is taken is answered by `decode_taken`, one that is refused
+-- leaves all as it came.
+-- Assumes nothing.
+use mathlib.Core.Path.{refl, sym, _∙_}
+use native.Mathlib.Omega.{arith}
+use borrow.Author.Needs.{needs}
+use Rattle.line.proofs.EntryLaws.{line-taken}
+use Rattle.line.proofs.entry.decode_line.Statement.{statement}
+use Rattle.line.proofs.entry.decode_line.Tie as tie
+
+line-test-requires : tie.Need-line-test-requires
+line-test-requires c κs = search needs
+
+enum-known-call : tie.Need-enum-known-call
+enum-known-call c = search needs
+
+decode-taken-requires : tie.Need-decode-taken-requires
+decode-taken-requires c κs =
+    let s = c .before .before .before .before .before .before .before in
+    line-taken 3 (s .args .degree) (s .args .cells .now) _ (omega arith)
+    (sym (c .before .before .before .before .line-test .ensures) ∙ c .before .before .call .given .1)
+
+enum-known-call-2 : tie.Need-enum-known-call-2
+enum-known-call-2 c = search needs
+
+same-length : tie.Need-same-length
+same-length c = search needs
+
+returns : tie.Need-returns
+returns c =
+    rw (← c .before .before .before .before .before .before .before .line-test .ensures, c .before .before .before .before .before .call .given .1)
+    (c .before .before .decode-taken .ensures)
+
+same-length-2 : tie.Need-same-length-2
+same-length-2 c = search needs
+
+returns-2 : tie.Need-returns-2
+returns-2 c =
+    rw (← c .before .before .before .line-test .ensures, c .before .call2 .given .1) (record { refusal = refl; found = refl; cells = refl })
+
+pub decode-line-spec : {M : Type 1} → statement M
+decode-line-spec =
+    tie.close
+    (tie.spec
+    line-test-requires
+    enum-known-call
+    decode-taken-requires
+    enum-known-call-2
+    same-length
+    returns
+    same-length-2
+    returns-2)

@@ -1,0 +1,75 @@
+// Bounded-distance decoding of a packed word.
+use crate::packed::flip_bit;
+use field::degree::Degree;
+use field::degree::order_of;
+use field::locate::Positions;
+use field::locate::locate;
+use field::syndrome::syndrome_of;
+use field::tables::FieldTables;
+ghost use mathlib.Core.Path.{_≡_};
+ghost use mathlib.Core.Bool.{cond};
+ghost use mathlib.Core.List.{List};
+ghost use Prim.Native.Nat.{ℕ, _+_, _<_};
+ghost use Rattle.field.specs.Degree.{size};
+ghost use Rattle.field.specs.Tables.{Tables};
+ghost use Rattle.line.specs.Bounded.{flip, bounded};
+ghost use Rattle.line.specs.Packed.{PacksWord};
+ghost use lib.Dec.{eqb};
+ghost use Rattle.line.specs.Working.{Answers, Below, mended};
+
+// What bounded-distance decoding of a word found (the word itself where it failed), and the decodings counted so far.
+pub struct Tried {
+    pub found: bool,
+    pub word: u64,
+    pub count: u64,
+}
+
+fn flip_where(yes: bool, word: u64, k: usize) -> u64
+    requires { ⌜ k < 64 ⌝ }
+    ensures { λ r. ⌜ ((n : ℕ) (ws : List ℕ) → PacksWord n ws word → k < n → PacksWord n (cond yes (flip k ws) ws) r) ⌝ }
+{
+    if yes { flip_bit(word, k) } else { word }
+}
+
+// The word with the cells flipped that the positions and the parity say: the last cell too where the ones would stay odd in
+// number. Three flips are too many.
+fn mend(d: Degree, word: u64, wrong: Positions, parity: u16, count: u64) -> Tried
+    requires { ⌜ Below (size d) wrong ⌝ }
+    ensures { λ r. ⌜ (r .count ≡ count) × ((ws : List ℕ) → PacksWord (size d) ws word → Answers (size d) (mended d ws wrong (eqb parity 0)) r) ⌝ }
+{
+    let last = order_of(d);
+    let even = parity == 0;
+    match wrong {
+        Positions::Zero => Tried {
+            found: true,
+            word: flip_where(!even, word, last),
+            count,
+        },
+        Positions::One(i) => Tried {
+            found: true,
+            word: flip_bit(flip_where(even, word, last), i),
+            count,
+        },
+        Positions::Two(i, j) => Tried {
+            found: even,
+            word: flip_bit(flip_bit(word, j), i),
+            count,
+        },
+        Positions::Unfit => Tried {
+            found: false,
+            word,
+            count,
+        },
+    }
+}
+
+// The one way to bounded-distance decoding: it is handed the running count and gives it back one higher, and nothing else
+// adds to a line's count.
+pub fn counted(d: Degree, word: u64, count: u64, tables: &FieldTables) -> Tried
+    requires { ⌜ (count < 1000) × Tables d (now tables) ⌝ }
+    ensures { λ r. ⌜ (r .count ≡ count + 1) × ((ws : List ℕ) → PacksWord (size d) ws word → Answers (size d) (bounded d ws) r) ⌝ }
+{
+    let s = syndrome_of(d, word, tables);
+    let wrong = locate(d, s.s1, s.s3, tables);
+    mend(d, word, wrong, s.parity, count + 1)
+}

@@ -1,0 +1,87 @@
+// Line decoding in the order of Algorithm 1 of source document 000.
+use crate::bounded::Tried;
+use crate::bounded::counted;
+use crate::packed::Line;
+use crate::packed::count_differences;
+use crate::packed::count_erasures;
+use crate::packed::fill;
+use field::degree::Degree;
+use field::tables::FieldTables;
+ghost use mathlib.Core.Path.{_≡_};
+ghost use mathlib.Core.List.{List};
+ghost use Prim.Native.Nat.{ℕ, _+_, _*_, _<_, _≤_};
+ghost use Rattle.field.specs.Degree.{size};
+ghost use Rattle.field.specs.Tables.{Tables};
+ghost use Rattle.line.specs.Cells.{few, bit};
+ghost use Rattle.line.specs.Bounded.{Answer, bounded, orBack};
+ghost use Rattle.line.specs.Decoding.{choice, decode, decoded};
+ghost use Rattle.line.specs.Packed.{Packs};
+ghost use Rattle.line.specs.Working.{Answers};
+
+// A line, and the decodings counted so far.
+pub struct Sent {
+    pub line: Line,
+    pub count: u64,
+}
+
+// Lines 8 to 14 of Algorithm 1: a word that failed is out; of two codewords the one with fewer differences at the line's
+// known cells, at a tie the first.
+pub fn choose(y: Line, one: Tried, two: Tried) -> Tried
+    ensures { λ r. ⌜ ((n : ℕ) (ys : List ℕ) (p q : Answer) → Packs n ys y → Answers n p one → Answers n q two → Answers n (choice ys p q) r) ⌝ }
+{
+    if !two.found {
+        one
+    } else if !one.found {
+        two
+    } else if one.word == two.word {
+        one
+    } else if count_differences(y, two.word) < count_differences(y, one.word) {
+        two
+    } else {
+        one
+    }
+}
+
+// A line that fails is given back as it came.
+pub fn or_back(y: Line, t: Tried) -> Line
+    ensures { λ r. ⌜ ((n : ℕ) (ys : List ℕ) (p : Answer) → Packs n ys y → Answers n p t → Packs n (orBack ys p) r) ⌝ }
+{
+    if t.found { Line::new(t.word, 0) } else { y }
+}
+
+// Algorithm 1: count the unsure cells, fill, decode both words, measure and choose.
+pub fn try_packed(d: Degree, y: Line, filling: u64, count: u64, tables: &FieldTables) -> Tried
+    requires { ⌜ (count < 900) × Tables d (now tables) ⌝ }
+    ensures { λ r. ⌜ (r .count ≤ count + 2) × ((ys : List ℕ) → Packs (size d) ys y → Answers (size d) (decode (bounded d) ys filling) r × (r .count ≡ count + 2 * bit (few ys))) ⌝ }
+{
+    if count_erasures(y) < 6 {
+        let words = fill(y, filling);
+        let one = counted(d, words[0], count, tables);
+        let two = counted(d, words[1], one.count, tables);
+        let best = choose(y, one, two);
+        Tried {
+            found: best.found,
+            word: best.word,
+            count: two.count,
+        }
+    } else {
+        Tried {
+            found: false,
+            word: 0,
+            count,
+        }
+    }
+}
+
+// Line decoding: what Algorithm 1 found, or the line as it came.
+pub fn decode_packed(d: Degree, y: Line, filling: u64, count: u64, tables: &FieldTables) -> Sent
+    requires { ⌜ (count < 900) × Tables d (now tables) ⌝ }
+    ensures { λ r. ⌜ (r .count ≤ count + 2) × ((ys : List ℕ) → Packs (size d) ys y → Packs (size d) (decoded (bounded d) ys filling) (r .line) × (r .count ≡ count + 2 * bit (few ys))) ⌝ }
+{
+    let t = try_packed(d, y, filling, count, tables);
+    let line = or_back(y, t);
+    Sent {
+        line,
+        count: t.count,
+    }
+}
