@@ -13,7 +13,6 @@ use crate::row::update_row;
 use field::degree::Degree;
 use field::degree::Named;
 use field::degree::degree_of;
-use field::degree::size_of;
 use field::tables::make_tables;
 ghost use mathlib.Core.Path.{_≡_};
 ghost use mathlib.Core.List.{List};
@@ -87,7 +86,7 @@ fn line_test(degree: u64, cells: &[u8], bound: u8) -> Call
     let named = degree_of(degree);
     match named {
         Named::Known(d) => {
-            let n = size_of(d);
+            let n = Line::cells(d);
             shape_test(d, cells.len() == n, all_below(cells, bound))
         }
         Named::Unknown => Call::Refused(Refusal::BadDegree),
@@ -100,7 +99,7 @@ fn messages_test(degree: u64, incoming: &[u8], channel: &[u8], messages: &[u8]) 
     let named = degree_of(degree);
     match named {
         Named::Known(d) => {
-            let n = size_of(d);
+            let n = Line::cells(d);
             let long = (incoming.len() == n) & ((channel.len() == n) & (messages.len() == n));
             let small = all_below(incoming, 3) & all_below(channel, 3);
             shape_test(d, long, small)

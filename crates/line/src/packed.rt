@@ -1,12 +1,14 @@
 // A line packed in machine words. Only this module knows how.
 use crate::cells::Side;
+use field::degree::Degree;
 ghost use mathlib.Core.Path.{_≡_};
 ghost use mathlib.Core.Bool.{true};
 ghost use mathlib.Core.List.{List};
-ghost use Prim.Native.Nat.{ℕ, _+_, _*_, _<_, _≤_, _/_, _%_, _^_};
+ghost use Prim.Native.Nat.{ℕ, _+_, _-_, _*_, _<_, _≤_, _/_, _%_, _^_};
 ghost use lib.Bits.{bitAnd, bitOr, bitXor};
 ghost use lib.ListN.{length, set, take, drop};
 ghost use lib.Seq.{sets};
+ghost use Rattle.field.specs.Degree.{bits, size, order};
 ghost use Rattle.field.specs.Syndrome.{digits};
 ghost use Rattle.line.specs.Cells.{Cells, cell, erasures, distance, filled, isOne, isErased};
 ghost use Rattle.line.specs.Bounded.{flip};
@@ -30,6 +32,26 @@ impl Line {
     pub const K_SIX: usize = 51;
 
     pub const RADIUS: u32 = 2;
+
+    // n
+    pub fn cells(d: Degree) -> usize
+        ensures { λ r. ⌜ r ≡ size d ⌝ }
+    {
+        match d {
+            Degree::Four => Line::N_FOUR,
+            Degree::Six => Line::N_SIX,
+        }
+    }
+
+    // k: all cells but the 2v check cells below them and the parity cell above
+    pub fn message_cells(d: Degree) -> usize
+        ensures { λ r. ⌜ r ≡ order d - 2 * bits d ⌝ }
+    {
+        match d {
+            Degree::Four => Line::K_FOUR,
+            Degree::Six => Line::K_SIX,
+        }
+    }
 
     pub fn new(ones: u64, erased: u64) -> Line
         ensures { λ r. ⌜ (r .ones ≡ ones) × (r .erased ≡ erased) ⌝ }

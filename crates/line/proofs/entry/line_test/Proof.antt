@@ -12,8 +12,8 @@ degree-of-requires c κs = search needs
 enum-known-named : tie.Need-enum-known-named
 enum-known-named c = search needs
 
-size-of-requires : tie.Need-size-of-requires
-size-of-requires c κs = search needs
+cells-requires : tie.Need-cells-requires
+cells-requires c κs = search needs
 
 all-below-requires : tie.Need-all-below-requires
 all-below-requires c κs = search needs
@@ -27,7 +27,7 @@ enum-told c = search needs
 returns : tie.Need-returns
 returns c =
     let s = c .before .before .before .before .before .before .before .before in
-    rw (c .shape-test .ensures, c .before .all-below .ensures, c .before .before .size-of .ensures)
+    rw (c .shape-test .ensures, c .before .all-below .ensures, c .before .before .cells .ensures)
     (line-known (s .args .bound) (s .args .degree) (s .args .cells .now) _
     (sym (c .before .before .before .before .before .before .degree-of .ensures) ∙ c .before .before .before .before .named .given .1))
 
@@ -43,7 +43,7 @@ line-test-spec =
     (tie.spec
     degree-of-requires
     enum-known-named
-    size-of-requires
+    cells-requires
     all-below-requires
     shape-test-requires
     enum-told
