@@ -32,13 +32,22 @@ run s at k (suc n) h =
     let l : at + k < length s = omega arith in
     rw (drop-cons s (at + k) 0 l) (ap {B = List ℕ} (λ r. getD s (at + k) 0 ∷ r) (rw (add-suc at k) at (run s at (suc k) n (omega arith))))
 
+pub joined-four : (s : List ℕ) (at : ℕ) → at + 4 ≤ length s
+    → joined (take 4 (drop at s)) ≡ getD s at 0 + getD s (at + 1) 0 * 256 + getD s (at + 2) 0 * 65536 + getD s (at + 3) 0 * 16777216
+unfolding joined
+joined-four s at h =
+    let e = rw (add-zero at) at (run s at 0 4 (omega arith)) in
+    ap joined e ∙ omega arith
+
+-- eight are four and four
 pub joined-eight : (s : List ℕ) (at : ℕ) → at + 8 ≤ length s
-    → joined (take 8 (drop at s)) ≡ getD s at 0 + getD s (at + 1) 0 * 256 + getD s (at + 2) 0 * 65536 + getD s (at + 3) 0 * 16777216 + getD s (at + 4) 0 * 4294967296
-    + getD s (at + 5) 0 * 1099511627776 + getD s (at + 6) 0 * 281474976710656 + getD s (at + 7) 0 * 72057594037927936
+    → joined (take 8 (drop at s)) ≡ joined (take 4 (drop at s)) + joined (take 4 (drop (at + 4) s)) * 4294967296
 unfolding joined
 joined-eight s at h =
-    let e = rw (add-zero at) at (run s at 0 8 (omega arith)) in
-    ap joined e ∙ omega arith
+    let e8 = ap joined (rw (add-zero at) at (run s at 0 8 (omega arith))) in
+    let e4 = ap joined (rw (add-zero at) at (run s at 0 4 (omega arith))) in
+    let f4 = ap joined (run s at 4 4 (omega arith)) in
+    omega arith
 
 -- ---- each byte's lowest bit
 

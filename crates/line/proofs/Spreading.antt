@@ -59,50 +59,41 @@ spread-le x = omega arith
 
 -- ---- the bytes put
 
-put-sets : (s : List ℕ) (at a b c d e f g h : ℕ)
-    → set (set (set (set (set (set (set (set s at a) (at + 1) b) (at + 2) c) (at + 3) d) (at + 4) e) (at + 5) f) (at + 6) g) (at + 7) h ≡ sets s at (a ∷ b ∷ c ∷ d ∷ e ∷ f ∷ g ∷ h ∷ [])
-put-sets s at a b c d e f g h =
+pub put-four-bytes : (s : List ℕ) (at x : ℕ) {a b c e : ℕ} → a ≡ x % 256 → b ≡ x / 2 ^ 8 % 256 → c ≡ x / 2 ^ 16 % 256 → e ≡ x / 2 ^ 24 % 256
+    → set (set (set (set s at a) (at + 1) b) (at + 2) c) (at + 3) e ≡ sets s at (bytesOf 4 x)
+unfolding bytesOf
+put-four-bytes s at x ea eb ec ee =
     let e1 : at + 1 ≡ suc at = omega arith in
     let e2 : at + 2 ≡ suc (suc at) = omega arith in
     let e3 : at + 3 ≡ suc (suc (suc at)) = omega arith in
-    let e4 : at + 4 ≡ suc (suc (suc (suc at))) = omega arith in
-    let e5 : at + 5 ≡ suc (suc (suc (suc (suc at)))) = omega arith in
-    let e6 : at + 6 ≡ suc (suc (suc (suc (suc (suc at))))) = omega arith in
-    let e7 : at + 7 ≡ suc (suc (suc (suc (suc (suc (suc at)))))) = omega arith in
-    rw (e1, e2, e3, e4, e5, e6, e7)
+    rw (e1, e2, e3, ea, eb, ec, ee, shr-shr x 8 8, shr-shr x 16 8)
 
-pub put-bytes : (s : List ℕ) (at x : ℕ) {a b c d e f g h : ℕ}
-    → a ≡ x % 256 → b ≡ x / 2 ^ 8 % 256 → c ≡ x / 2 ^ 16 % 256 → d ≡ x / 2 ^ 24 % 256 → e ≡ x / 2 ^ 32 % 256 → f ≡ x / 2 ^ 40 % 256 → g ≡ x / 2 ^ 48 % 256 → h ≡ x / 2 ^ 56 % 256
-    → set (set (set (set (set (set (set (set s at a) (at + 1) b) (at + 2) c) (at + 3) d) (at + 4) e) (at + 5) f) (at + 6) g) (at + 7) h ≡ sets s at (bytesOf x)
+-- eight bytes are four and four
+pub put-eight-bytes : (s : List ℕ) (at x : ℕ) → sets (sets s at (bytesOf 4 x)) (at + 4) (bytesOf 4 (x / 2 ^ 32)) ≡ sets s at (bytesOf 8 x)
 unfolding bytesOf
-put-bytes s at x {a} {b} {c} {d} {e} {f} {g} {h} ea eb ec ed ee ef eg eh = put-sets s at a b c d e f g h ∙ rw (ea, eb, ec, ed, ee, ef, eg, eh)
+put-eight-bytes s at x =
+    let e : at + 4 ≡ suc (suc (suc (suc at))) = omega arith in
+    let q : x / 2 ^ 32 ≡ x / 256 / 256 / 256 / 256 = sym (rw (shr-shr x 8 8, shr-shr x 16 8, shr-shr x 24 8)) in
+    rw (e, q)
 
 -- joined bytes, taken apart
 byte : (j d : ℕ) → d < 256 → ((j * 256 + d) % 256 ≡ d) × ((j * 256 + d) / 256 ≡ j)
 byte j d h = (omega arith, omega arith)
-
-unfoldable apart : ℕ → ℕ → List ℕ
-apart zero x = []
-apart (suc n) x = x % 256 ∷ apart n (x / 256)
 
 cells-joined : (n v u : ℕ) → joined (digits n v) + 2 * joined (digits n u) ≡ joined (cellsOf n v u)
 unfolding joined digits cellsOf
 cells-joined zero v u = refl
 cells-joined (suc n) v u = omega (arith, cells-joined n (v / 2) (u / 2))
 
-apart-cells : (n v u : ℕ) → apart n (joined (cellsOf n v u)) ≡ cellsOf n v u
-unfolding joined cellsOf apart
-apart-cells zero v u = refl
-apart-cells (suc n) v u =
+bytes-joined : (n v u : ℕ) → bytesOf n (joined (cellsOf n v u)) ≡ cellsOf n v u
+unfolding joined cellsOf bytesOf
+bytes-joined zero v u = refl
+bytes-joined (suc n) v u =
     let b = byte (joined (cellsOf n (v / 2) (u / 2))) (v % 2 + 2 * (u % 2)) (omega arith) in
-    rw (b .0, b .1) (ap {B = List ℕ} (λ r. (v % 2 + 2 * (u % 2)) ∷ r) (apart-cells n (v / 2) (u / 2)))
+    rw (b .0, b .1) (ap {B = List ℕ} (λ r. (v % 2 + 2 * (u % 2)) ∷ r) (bytes-joined n (v / 2) (u / 2)))
 
-bytes-apart : (x : ℕ) → bytesOf x ≡ apart 8 x
-unfolding bytesOf apart
-bytes-apart x = rw (shr-shr x 8 8, shr-shr x 16 8, shr-shr x 24 8, shr-shr x 32 8, shr-shr x 40 8, shr-shr x 48 8)
-
-pub bytes-cells : (v u : ℕ) → bytesOf (joined (digits 8 v) + 2 * joined (digits 8 u)) ≡ cellsOf 8 v u
-bytes-cells v u = ap bytesOf (cells-joined 8 v u) ∙ bytes-apart (joined (cellsOf 8 v u)) ∙ apart-cells 8 v u
+pub bytes-cells : (v u : ℕ) → bytesOf 8 (joined (digits 8 v) + 2 * joined (digits 8 u)) ≡ cellsOf 8 v u
+bytes-cells v u = ap (bytesOf 8) (cells-joined 8 v u) ∙ bytes-joined 8 v u
 
 -- ---- a turn of the loop
 
@@ -140,8 +131,8 @@ unpack-turn out n at a b h l =
     ∙ ap (λ (r : List ℕ). take at out ++ r) (sym (ap (λ (k : ℕ). cellsOf k a b) more ∙ cells-add 8 (n - (at + 8)) a b))
 
 pub put-cells : (out out′ : List ℕ) (at a b : ℕ) {x y : ℕ} → x ≡ joined (digits 8 (a % 256)) → y ≡ joined (digits 8 (b % 256))
-    → out′ ≡ sets out at (bytesOf (x + 2 * y)) → out′ ≡ sets out at (cellsOf 8 (a % 256) (b % 256))
-put-cells out out′ at a b ex ey e = e ∙ ap (sets out at) (ap₂ (λ (x y : ℕ). bytesOf (x + 2 * y)) ex ey ∙ bytes-cells (a % 256) (b % 256))
+    → out′ ≡ sets out at (bytesOf 8 (x + 2 * y)) → out′ ≡ sets out at (cellsOf 8 (a % 256) (b % 256))
+put-cells out out′ at a b ex ey e = e ∙ ap (sets out at) (ap₂ (λ (x y : ℕ). bytesOf 8 (x + 2 * y)) ex ey ∙ bytes-cells (a % 256) (b % 256))
 
 -- two packed words say the cells that they pack
 pub cells-packed : (cs : List ℕ) → Small 3 cs → cellsOf (length cs) (packBy isOne cs) (packBy isErased cs) ≡ cs

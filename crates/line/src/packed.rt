@@ -165,19 +165,23 @@ fn wide(x: u8) -> u64
     x as u64
 }
 
-// Eight cells as one word, the first in the lowest byte.
-fn eight(cells: &[u8], at: usize) -> u64
-    requires { ⌜ at + 8 ≤ length (now cells) ⌝ }
-    ensures { λ r. ⌜ r ≡ joined (take 8 (drop at (now (cells .entry)))) ⌝ }
+// Four cells as one number, the first in the lowest byte.
+fn four(cells: &[u8], at: usize) -> u64
+    requires { ⌜ at + 4 ≤ length (now cells) ⌝ }
+    ensures { λ r. ⌜ (r ≡ joined (take 4 (drop at (now (cells .entry))))) × (r < 4294967296) ⌝ }
 {
     wide(cells[at])
         + wide(cells[at + 1]) * 0x100
         + wide(cells[at + 2]) * 0x1_0000
         + wide(cells[at + 3]) * 0x100_0000
-        + wide(cells[at + 4]) * 0x1_0000_0000
-        + wide(cells[at + 5]) * 0x100_0000_0000
-        + wide(cells[at + 6]) * 0x1_0000_0000_0000
-        + wide(cells[at + 7]) * 0x100_0000_0000_0000
+}
+
+// Eight cells as one word.
+fn eight(cells: &[u8], at: usize) -> u64
+    requires { ⌜ at + 8 ≤ length (now cells) ⌝ }
+    ensures { λ r. ⌜ r ≡ joined (take 8 (drop at (now (cells .entry)))) ⌝ }
+{
+    four(cells, at) + four(cells, at + 4) * 0x1_0000_0000
 }
 
 // The lowest bits of eight bytes.
@@ -225,19 +229,24 @@ fn low_byte(x: u64) -> u8
     (x % 256) as u8
 }
 
-// The eight bytes of a word, the lowest first.
-fn put_eight(cells: &mut [u8], at: usize, x: u64)
-    requires { ⌜ at + 8 ≤ length (now cells) ⌝ }
-    ensures { λ _. ⌜ now (cells .exit) ≡ sets (now (cells .entry)) at (bytesOf x) ⌝ }
+// The four low bytes of a word, the lowest first.
+fn put_four(cells: &mut [u8], at: usize, x: u64)
+    requires { ⌜ at + 4 ≤ length (now cells) ⌝ }
+    ensures { λ _. ⌜ now (cells .exit) ≡ sets (now (cells .entry)) at (bytesOf 4 x) ⌝ }
 {
     cells[at] = low_byte(x);
     cells[at + 1] = low_byte(x >> 8);
     cells[at + 2] = low_byte(x >> 16);
     cells[at + 3] = low_byte(x >> 24);
-    cells[at + 4] = low_byte(x >> 32);
-    cells[at + 5] = low_byte(x >> 40);
-    cells[at + 6] = low_byte(x >> 48);
-    cells[at + 7] = low_byte(x >> 56);
+}
+
+// The eight bytes of a word.
+fn put_eight(cells: &mut [u8], at: usize, x: u64)
+    requires { ⌜ at + 8 ≤ length (now cells) ⌝ }
+    ensures { λ _. ⌜ now (cells .exit) ≡ sets (now (cells .entry)) at (bytesOf 8 x) ⌝ }
+{
+    put_four(cells, at, x);
+    put_four(cells, at + 4, x >> 32);
 }
 
 pub fn unpack(l: Line, cells: &mut [u8])
