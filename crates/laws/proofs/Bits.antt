@@ -2,13 +2,13 @@
 -- Assumes nothing.
 use mathlib.Core.Path.{_≡_, refl, sym, ap, ap₂, _∙_}
 use mathlib.Core.Bool.{Bool, true, false, cond, _&&_, _||_, not}
-use Prim.Native.Nat.{ℕ, zero, suc, _+_, _-_, _*_, _/_, _%_, _^_, _<_, _≤_, min, max}
-use native.Mathlib.Nat.{pow-suc, mod-lt, zero-lt-suc, mul-comm, div-div-eq-div-mul}
+use Prim.Native.Nat.{ℕ, zero, suc, _+_, _-_, _*_, _/_, _%_, _^_, _<_, min, max, suc-le-suc}
+use native.Mathlib.Nat.{pow-suc, zero-lt-suc, mul-comm, div-div-eq-div-mul, div-one, mul-assoc, mul-mod-left}
 use native.Mathlib.Omega.{arith}
 use lib.Bits.{bitAnd, bitOr, bitXor, differ, and-step, or-step, xor-step, and-shr, and-mod, or-shr, or-mod, xor-shr, xor-mod}
 use lib.Count.{ones, ones-step}
 use lib.Dec.{eqb}
-use lib.Pow.{pow-pos}
+use lib.Pow.{pow-add, shr-shr, shl-shr, field, mod-mod-pow}
 use Rattle.laws.specs.Bits.{bit, xorb, bitAt}
 use Rattle.laws.proofs.Xor.{bit-ind, digit-lt}
 
@@ -85,3 +85,45 @@ xor-at a b k = ap (λ (x : ℕ). x % 2) (xor-shr a b k) ∙ xor-mod (a / 2 ^ k) 
 
 pub and-at : (a b k : ℕ) → bitAt (bitAnd a b) k ≡ bitAnd (bitAt a k) (bitAt b k)
 and-at a b k = ap (λ (x : ℕ). x % 2) (and-shr a b k) ∙ and-mod (a / 2 ^ k) (b / 2 ^ k) 1
+
+-- ---- bits of a shifted word, and of a word cut
+
+-- shifted down by j, bit k is bit j + k
+pub shr-at : (w j k : ℕ) → bitAt (w / 2 ^ j) k ≡ bitAt w (j + k)
+shr-at w j k = ap (λ (x : ℕ). x % 2) (shr-shr w j k)
+
+-- shifted up by j, bit j + k is bit k
+pub shl-at : (w j k : ℕ) → bitAt (w * 2 ^ j) (j + k) ≡ bitAt w k
+shl-at w j k = ap (λ (x : ℕ). x % 2) (sym (shr-shr (w * 2 ^ j) j k) ∙ ap (λ (x : ℕ). x / 2 ^ k) (shl-shr w j))
+
+-- and the bits below j are 0
+pub shl-low : (w j k : ℕ) → k < j → bitAt (w * 2 ^ j) k ≡ 0
+shl-low w j k h =
+    let d : ℕ = j - k - 1 in
+    let e : j ≡ suc d + k = omega arith in
+    ap (λ (x : ℕ). w * 2 ^ x / 2 ^ k % 2) e
+    ∙ ap (λ (x : ℕ). w * x / 2 ^ k % 2) (pow-add 2 (suc d) k)
+    ∙ ap (λ (x : ℕ). x / 2 ^ k % 2) (sym (mul-assoc w (2 ^ suc d) (2 ^ k)))
+    ∙ ap (λ (x : ℕ). x % 2) (shl-shr (w * 2 ^ suc d) k ∙ ap (λ (x : ℕ). w * x) (pow-suc 2 d) ∙ sym (mul-assoc w (2 ^ d) 2))
+    ∙ mul-mod-left (w * 2 ^ d) 2
+
+-- a word cut to n bits keeps those
+pub mod-at : (w n k : ℕ) → k < n → bitAt (w % 2 ^ n) k ≡ bitAt w k
+mod-at w n k h =
+    let e : n ≡ n - k - 1 + 1 + k = omega arith in
+    ap (λ (x : ℕ). w % 2 ^ x / 2 ^ k % 2) e ∙ ap (λ (x : ℕ). x % 2) (field w (n - k - 1 + 1) k) ∙ mod-mod-pow (w / 2 ^ k) (n - k - 1) 1
+
+-- ---- a word is known by its bits
+
+-- two words of n bits are the same where their bits are
+pub bits-ext : (n a b : ℕ) → a < 2 ^ n → b < 2 ^ n → ((i : ℕ) → i < n → bitAt a i ≡ bitAt b i) → a ≡ b
+bits-ext zero a b ha hb h = omega arith
+bits-ext (suc n) a b ha hb h =
+    let low : a % 2 ≡ b % 2 = rw (div-one, div-one) at (h 0 (zero-lt-suc n)) in
+    let la : a < 2 ^ n * 2 = rw (pow-suc 2 n) at ha in
+    let lb : b < 2 ^ n * 2 = rw (pow-suc 2 n) at hb in
+    let rest : a / 2 ≡ b / 2 = bits-ext n (a / 2) (b / 2) (omega arith) (omega arith) (λ i l. next i (h (suc i) (suc-le-suc l))) in
+    omega arith
+  where
+    next : (i : ℕ) → bitAt a (suc i) ≡ bitAt b (suc i) → bitAt (a / 2) i ≡ bitAt (b / 2) i
+    next i e = rw (shift-more, shift-more) at e

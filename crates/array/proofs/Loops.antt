@@ -1,0 +1,296 @@
+-- What holds after each turn of the loops over cells and words.
+-- Assumes nothing.
+use mathlib.Core.Path.{_≡_, refl, sym, ap, ap₂, _∙_}
+use mathlib.Core.Bool.{Bool, true, false}
+use mathlib.Core.List.{List, _++_, append-assoc, append-nil}
+use Prim.Native.Nat.{ℕ, suc, _+_, _-_, _*_, _/_, _%_, _<_, _≤_}
+use native.Mathlib.Nat.{zero-mul, one-mul, suc-mul, add-zero, add-assoc, sub-zero, add-sub-cancel-left, not-suc-le-zero}
+use native.Mathlib.Decide.{ℕ-discrete}
+use native.Mathlib.Numerals.{add-one}
+use native.Mathlib.Omega.{arith}
+use borrow.Author.Tests.{le-leb, lt-leb, ne-eqb}
+use borrow.Rule.Slice.PartMut.{putMid, same-len-mid}
+use lib.Bits.{bitXor, xor-zero-r}
+use lib.ListN.{length, take, drop, getD, set, length-set, length-drop, drop-of-length-le}
+use lib.Seq.{length-take-le, getD-take, getD-drop, ext-getD, drop-cons, take-suc-set, take-all, take-at, drop-at, drop-drop, getD-set-same, getD-set-other}
+use Rattle.laws.specs.Bits.{bitAt}
+use Rattle.laws.proofs.Bits.{bit-at-lt}
+use Rattle.field.specs.Syndrome.{sumOver, digits}
+use Rattle.array.specs.Arrays.{line, lines}
+use Rattle.array.specs.Refusals.{atMost}
+use Rattle.array.specs.Units.{encodedWord, rowWord, xorTo}
+use Rattle.array.proofs.ArrayLaws.{Even, line-at, length-line, length-lines, line-room}
+use Rattle.array.proofs.Bounds.{square-le}
+use Rattle.field.proofs.Sums.{cell, sum-more}
+use Rattle.array.proofs.Linear.{to-last}
+
+-- ---- the test of the cells
+
+module _ (b : ℕ) (s : List ℕ) (i : ℕ) where
+  -- a cell above the bound
+  pub above : i < length s → b < getD s i 0 → atMost b (drop i s) ≡ false
+  unfolding atMost
+  above h l = rw (drop-cons s i 0 h, lt-leb (getD s i 0) b l)
+
+  -- a cell within it
+  pub within : i < length s → getD s i 0 ≤ b → atMost b (drop i s) ≡ atMost b (drop (i + 1) s)
+  unfolding atMost
+  within h l = rw (add-one i, drop-cons s i 0 h, le-leb (getD s i 0) b l)
+
+  pub tested : length s ≤ i → atMost b (drop i s) ≡ true
+  unfolding atMost
+  tested h = rw (drop-of-length-le s h)
+
+-- ---- a message row, a cell a turn
+
+module _ (t m : List ℕ) (sum a : ℕ) (e : sum ≡ encodedWord t (take a m)) where
+  -- a cell that holds 1, and another
+  pub sum-one : getD m a 0 ≡ 1 → bitXor sum (getD t a 0) ≡ encodedWord t (take (a + 1) m)
+  unfolding encodedWord
+  sum-one h = sym (ap (λ (x : ℕ). sumOver (λ j. getD t j 0) (take x m)) (add-one a) ∙ sum-more (λ j. getD t j 0) m a ∙ ap₂ (λ (x y : ℕ). bitXor x (cell y (getD t a 0))) (sym e) h)
+
+  pub sum-other : (getD m a 0 ≡ 1 → ⊥) → sum ≡ encodedWord t (take (a + 1) m)
+  unfolding encodedWord
+  sum-other h =
+      sym (ap (λ (x : ℕ). sumOver (λ j. getD t j 0) (take x m)) (add-one a) ∙ sum-more (λ j. getD t j 0) m a
+      ∙ ap (λ (x : Bool). bitXor (sumOver (λ j. getD t j 0) (take a m)) (elim x [ true ↦ getD t a 0 | false ↦ 0 ])) (ne-eqb (getD m a 0) 1 h)
+      ∙ xor-zero-r (sumOver (λ j. getD t j 0) (take a m)) ∙ sym e)
+
+  pub sum-all : length m ≤ a → sum ≡ encodedWord t m
+  sum-all h = e ∙ ap (encodedWord t) (take-all a m h)
+
+-- ---- the message rows, a row a turn
+
+pub record Encoding (t m ws₀ ws : List ℕ) (a at : ℕ) : Type 0 where
+  pub low : a ≤ length t
+  pub place : at ≡ a * length t
+  pub long : length ws ≡ length ws₀
+  pub words : (b : ℕ) → b < a → getD ws b 0 ≡ encodedWord t (line (length t) m b)
+
+pub encoding-start : (t m ws : List ℕ) → Encoding t m ws ws 0 0
+encoding-start t m ws = record {
+  low = omega arith;
+  place = sym (zero-mul (length t));
+  long = refl;
+  words = λ b h. absurd (not-suc-le-zero h);
+}
+
+module _ {t m ws₀ ws : List ℕ} {a at : ℕ} (w : Encoding t m ws₀ ws a at) (h : a < length t) where
+  -- the row lies within the message
+  pub encoding-room : at + length t ≤ length t * length t
+  encoding-room = omega (arith, w .place, line-room (length t) (length t) a h)
+
+  encoding-part : take (at + length t - at) (drop at m) ≡ line (length t) m a
+  encoding-part = ap₂ (λ (x y : ℕ). take x (drop y m)) (add-sub-cancel-left at (length t)) (w .place)
+
+  pub encoding-length : length m ≡ length t * length t → length (take (at + length t - at) (drop at m)) ≡ length t
+  encoding-length l = ap length encoding-part ∙ length-line (length t) (length t) m a h l
+
+  pub encoding-next : length t ≤ length ws₀ → (x : ℕ) → x ≡ encodedWord t (take (at + length t - at) (drop at m))
+      → Encoding t m ws₀ (set ws a x) (a + 1) (at + length t)
+  encoding-next l x e = record {
+    low = omega arith;
+    place = omega (arith, w .place, suc-mul a (length t));
+    long = length-set ws a x ∙ w .long;
+    words = λ b q. pick b (ℕ-discrete b a) q;
+  }
+    where
+      pick : (b : ℕ) → Dec (b ≡ a) → b < a + 1 → getD (set ws a x) b 0 ≡ encodedWord t (line (length t) m b)
+      pick b (yes z) q =
+          rw z (getD-set-same ws a x 0 (omega (arith, w .long)) ∙ e ∙ ap (encodedWord t) encoding-part)
+      pick b (no z) q = getD-set-other ws a b x 0 z ∙ w .words b (omega (arith, z))
+
+-- ---- a row of the array, a word a turn
+
+module _ (t ws : List ℕ) (i sum a : ℕ) (e : sum ≡ rowWord t ws a i) where
+  more : rowWord t ws (a + 1) i ≡ bitXor sum (bitAt (getD t a 0) i * getD ws a 0)
+  unfolding rowWord
+  more =
+      ap (λ (x : ℕ). xorTo x (λ a. bitAt (getD t a 0) i * getD ws a 0)) (add-one a)
+      ∙ to-last a (λ a. bitAt (getD t a 0) i * getD ws a 0) ∙ ap (λ (x : ℕ). bitXor x (bitAt (getD t a 0) i * getD ws a 0)) (sym e)
+
+  -- an entry that has bit i, and another
+  pub row-one : bitAt (getD t a 0) i ≡ 1 → bitXor sum (getD ws a 0) ≡ rowWord t ws (a + 1) i
+  row-one h = sym (more ∙ rw (h, one-mul))
+
+  pub row-other : (bitAt (getD t a 0) i ≡ 1 → ⊥) → sum ≡ rowWord t ws (a + 1) i
+  row-other h =
+      let z : bitAt (getD t a 0) i ≡ 0 = omega (arith, bit-at-lt (getD t a 0) i) in
+      sym (more ∙ rw (z, zero-mul) (xor-zero-r sum))
+
+  pub row-all : a ≤ length t → length t ≤ a → sum ≡ rowWord t ws (length t) i
+  row-all l h = let n : a ≡ length t = omega arith in e ∙ ap (λ (x : ℕ). rowWord t ws x i) n
+
+-- ---- bits written into a row, a cell a turn
+
+pub record Writing (word : ℕ) (row₀ row : List ℕ) (rest j : ℕ) : Type 0 where
+  pub low : j ≤ length row₀
+  pub long : length row ≡ length row₀
+  pub left : take j row ++ digits (length row₀ - j) rest ≡ digits (length row₀) word
+
+pub writing-start : (word : ℕ) (row : List ℕ) → Writing word row row word 0
+writing-start word row = record { low = omega arith; long = refl; left = rw sub-zero }
+
+pub writing-next : {word : ℕ} {row₀ row : List ℕ} {rest j : ℕ} → Writing word row₀ row rest j → j < length row
+    → Writing word row₀ (set row j (rest % 2)) (rest / 2) (j + 1)
+unfolding digits
+writing-next {word} {row₀} {row} {rest} {j} w h =
+    let l : length row₀ - j ≡ suc (length row₀ - suc j) = omega (arith, w .long) in
+    record {
+      low = omega (arith, w .long);
+      long = length-set row j (rest % 2) ∙ w .long;
+      left = rw (add-one, take-suc-set row j (rest % 2) h, append-assoc) (ap (λ (k : ℕ). take j row ++ digits k rest) (sym l) ∙ w .left);
+    }
+
+pub writing-end : {word : ℕ} {row₀ row : List ℕ} {rest j : ℕ} → Writing word row₀ row rest j → length row ≤ j → row ≡ digits (length row₀) word
+unfolding digits
+writing-end {word} {row₀} {row} {rest} {j} w h =
+    let z : length row₀ - j ≡ 0 = omega (arith, w .long) in
+    sym (append-nil row) ∙ ap₂ (λ (x : List ℕ) (k : ℕ). x ++ digits k rest) (sym (take-all j row h)) (sym z) ∙ w .left
+
+-- ---- cells copied, a cell a turn
+
+pub record Copying (from to₀ to : List ℕ) (i : ℕ) : Type 0 where
+  pub low : i ≤ length to₀
+  pub long : length to ≡ length to₀
+  pub left : take i to ++ drop i from ≡ from
+
+pub copying-start : (from to : List ℕ) → Copying from to to 0
+copying-start from to = record { low = omega arith; long = refl; left = refl }
+
+pub copying-next : {from to₀ to : List ℕ} {i : ℕ} → Copying from to₀ to i → length from ≡ length to₀ → i < length to
+    → Copying from to₀ (set to i (getD from i 0)) (i + 1)
+copying-next {from} {to₀} {to} {i} w l h =
+    let q : i < length from = omega (arith, w .long) in
+    record {
+      low = omega (arith, w .long);
+      long = length-set to i (getD from i 0) ∙ w .long;
+      left = rw (add-one, take-suc-set to i (getD from i 0) h, append-assoc) (ap (λ (x : List ℕ). take i to ++ x) (sym (drop-cons from i 0 q)) ∙ w .left);
+    }
+
+pub copying-end : {from to₀ to : List ℕ} {i : ℕ} → Copying from to₀ to i → length from ≡ length to₀ → length to ≤ i → to ≡ from
+copying-end {from} {to₀} {to} {i} w l h =
+    let q : length from ≤ i = omega (arith, w .long) in
+    sym (append-nil to) ∙ ap₂ (λ (x y : List ℕ). x ++ y) (sym (take-all i to h)) (sym (drop-of-length-le from q)) ∙ w .left
+
+-- ---- lines written, a line a turn: of k lines of n cells the first i are new, the others as they were
+
+pub record Lining (n : ℕ) (g : ℕ → List ℕ) (k : ℕ) (old new : List ℕ) (i at : ℕ) : Type 0 where
+  pub low : i ≤ k
+  pub place : at ≡ i * n
+  pub long : length new ≡ k * n
+  pub so-far : new ≡ lines g i ++ drop (i * n) old
+
+module _ {n : ℕ} {g : ℕ → List ℕ} {k : ℕ} {old : List ℕ} where
+  pub lining-start : length old ≡ k * n → Lining n g k old old 0 0
+  unfolding lines
+  lining-start l = record {
+    low = omega arith;
+    place = sym (zero-mul n);
+    long = l;
+    so-far = ap (λ (x : ℕ). drop x old) (sym (zero-mul n));
+  }
+
+  module _ {new : List ℕ} {i at : ℕ} (w : Lining n g k old new i at) where
+    -- line i lies within the array
+    pub lining-room : i < k → at + n ≤ k * n
+    lining-room h = omega (arith, w .place, line-room k n i h)
+
+    pub lining-length : i < k → length (take (at + n - at) (drop at new)) ≡ n
+    lining-length h =
+        ap (λ (x : ℕ). length (take x (drop at new))) (add-sub-cancel-left at n)
+        ∙ length-take-le n (drop at new) (rw length-drop (omega (arith, w .long, lining-room h)))
+
+    -- what is put into the place of line i, which comes back between the parts that were not lent
+    pub lining-next : Even n g k → i < k → (y : List ℕ) → y ≡ g i → Lining n g k old (putMid at (at + n - at) new y) (i + 1) (at + n)
+    unfolding lines
+    lining-next even h y e = record {
+      low = omega arith;
+      place = omega (arith, w .place, suc-mul i n);
+      long = same-len-mid at (at + n - at) new y (ap length e ∙ even i h ∙ sym (lining-length h)) ∙ w .long;
+      so-far =
+          let front : length (lines g i) ≡ at = length-lines n g i (λ j q. even j (omega arith)) ∙ sym (w .place) in
+          let next : i * n + n ≡ suc i * n = sym (suc-mul i n) in
+          rw (w .so-far, e, add-sub-cancel-left at n, take-at (lines g i) (drop (i * n) old) at front, drop-at (lines g i) (drop (i * n) old) at front, drop-drop n (i * n) old, next, add-one i)
+          (sym (append-assoc (lines g i) (g i) (drop (suc i * n) old)));
+    }
+
+    pub lining-end : length old ≡ k * n → k ≤ i → new ≡ lines g k
+    lining-end l h =
+        let e : i ≡ k = omega (arith, w .low) in
+        w .so-far ∙ ap (λ (x : ℕ). lines g x ++ drop (x * n) old) e
+        ∙ ap (λ (x : List ℕ). lines g k ++ x) (drop-of-length-le old {i = k * n} (omega arith)) ∙ append-nil (lines g k)
+
+-- ---- message cells copied out of an array, a row a turn
+
+-- k cells from p on of row p + i of an array of n by n cells
+abbrev pub inner : (n k p : ℕ) → List ℕ → ℕ → List ℕ
+inner n k p a i = take k (drop p (line n a (p + i)))
+
+pub record Taking (n k p : ℕ) (a old new : List ℕ) (i from to : ℕ) : Type 0 where
+  pub room : p + k ≤ n
+  pub small : n ≤ 64
+  pub whole : length a ≡ n * n
+  pub source : from ≡ (p + i) * n + p
+  pub lining : Lining k (inner n k p a) k old new i to
+
+-- the cells as they stand in the array
+inner-part : (n k p : ℕ) (a : List ℕ) (i : ℕ) → p + k ≤ n → i < k → length a ≡ n * n
+    → take k (drop ((p + i) * n + p) a) ≡ inner n k p a i
+inner-part n k p a i r h l =
+    let place : (p + i) * n + n ≤ n * n = line-room n n (p + i) (omega arith) in
+    let row : length (line n a (p + i)) ≡ n = length-line n n a (p + i) (omega arith) l in
+    let left : length (take k (drop ((p + i) * n + p) a)) ≡ k = length-take-le k (drop ((p + i) * n + p) a) (rw length-drop (omega arith)) in
+    let right : length (inner n k p a i) ≡ k = length-take-le k (drop p (line n a (p + i))) (rw length-drop (omega arith)) in
+    ext-getD 0 (take k (drop ((p + i) * n + p) a)) (inner n k p a i) (left ∙ sym right)
+    (λ j q.
+    let z : j < k = omega arith in
+    getD-take k (drop ((p + i) * n + p) a) j 0 z ∙ getD-drop ((p + i) * n + p) a j 0
+    ∙ ap (λ (x : ℕ). getD a x 0) (add-assoc ((p + i) * n) p j)
+    ∙ sym (getD-take k (drop p (line n a (p + i))) j 0 z ∙ getD-drop p (line n a (p + i)) j 0 ∙ line-at n a (p + i) (p + j) (omega arith)))
+
+inner-length : (n k p : ℕ) (a : List ℕ) → p + k ≤ n → length a ≡ n * n → Even k (inner n k p a) k
+inner-length n k p a r l i h =
+    length-take-le k (drop p (line n a (p + i))) (rw length-drop (omega (arith, length-line n n a (p + i) (omega arith) l)))
+
+pub taking-start : (n k p : ℕ) (a old : List ℕ) → p + k ≤ n → n ≤ 64 → length a ≡ n * n → length old ≡ k * k
+    → Taking n k p a old old 0 (p * n + p) 0
+taking-start n k p a old r s l m = record {
+  room = r;
+  small = s;
+  whole = l;
+  source = ap (λ (x : ℕ). x * n + p) (sym (add-zero p));
+  lining = lining-start m;
+}
+
+module _ {n k p : ℕ} {a old new : List ℕ} {i from to : ℕ} (w : Taking n k p a old new i from to) (h : i < k) where
+  -- the part that is read lies within the array, and the part that is written within the message
+  pub taking-source : from + k ≤ n * n
+  taking-source = omega (arith, w .room, w .source, line-room n n (p + i) (omega (arith, w .room)))
+
+  -- both ends fit
+  pub taking-fits : (from + k ≤ 4096) × (to + k ≤ 4096)
+  taking-fits =
+      let l : k ≤ 64 = omega (arith, w .room, w .small) in
+      (omega (arith, taking-source, square-le n (w .small)), omega (arith, lining-room (w .lining) h, square-le k l))
+
+  source-part : take (from + k - from) (drop from a) ≡ inner n k p a i
+  source-part =
+      ap₂ (λ (x y : ℕ). take x (drop y a)) (add-sub-cancel-left from k) (w .source) ∙ inner-part n k p a i (w .room) h (w .whole)
+
+  pub taking-part : length (take (from + k - from) (drop from a)) ≡ length (take (to + k - to) (drop to new))
+  taking-part = ap length source-part ∙ inner-length n k p a (w .room) (w .whole) i h ∙ sym (lining-length (w .lining) h)
+
+  pub taking-next : (y : List ℕ) → y ≡ take (from + k - from) (drop from a)
+      → Taking n k p a old (putMid to (to + k - to) new y) (i + 1) (from + n) (to + k)
+  taking-next y e = let next : (p + (i + 1)) * n ≡ suc (p + i) * n = ap (λ (x : ℕ). x * n) (omega arith) in record {
+    room = w .room;
+    small = w .small;
+    whole = w .whole;
+    source = omega (arith, w .source, suc-mul (p + i) n, next);
+    lining = lining-next (w .lining) (inner-length n k p a (w .room) (w .whole)) h y (e ∙ source-part);
+  }
+
+pub taking-end : {n k p : ℕ} {a old new : List ℕ} {i from to : ℕ} → Taking n k p a old new i from to → length old ≡ k * k → k ≤ i
+    → new ≡ lines (inner n k p a) k
+taking-end w l h = lining-end (w .lining) l h

@@ -1,0 +1,79 @@
+-- `encoding::encode_rows` meets its contract. The loop's invariant: the first a words are those of the first a message rows.
+-- Assumes nothing.
+use Prim.Native.Nat.{_-_}
+use native.Mathlib.Omega.{arith}
+use lib.ListN.{length}
+use Rattle.array.proofs.Bounds.{square-le}
+use Rattle.array.proofs.Loops.{Encoding, encoding-start, encoding-room, encoding-length, encoding-next}
+use Rattle.array.proofs.encoding.encode_rows.Statement.{statement}
+use Rattle.array.proofs.encoding.encode_rows.Tie as tie
+
+abbrev Inv-loop : tie.InvT-loop
+Inv-loop units message words₀ k a₀ at₀ words a at = Encoding units message words₀ words a at
+
+abbrev μ-loop : tie.MeasureT-loop
+μ-loop units message words₀ k a₀ at₀ words a at = length units - a
+
+loop-holds : tie.Need-loop-holds Inv-loop μ-loop
+loop-holds c = encoding-start _ _ _
+
+add-end : tie.Need-add-end Inv-loop μ-loop
+add-end c =
+    omega (arith, encoding-room (c .before .loop .inv) (c .loop-test .taken), square-le _ (c .before .before .before .before .before .pre .2))
+
+sub-encoded-word : tie.Need-sub-encoded-word Inv-loop μ-loop
+sub-encoded-word c = omega arith
+
+part-encoded-word-start : tie.Need-part-encoded-word-start Inv-loop μ-loop
+part-encoded-word-start c = omega arith
+
+part-encoded-word-end : tie.Need-part-encoded-word-end Inv-loop μ-loop
+part-encoded-word-end c = omega (arith, encoding-room (c .before .loop .inv) (c .loop-test .taken))
+
+encoded-word-requires : tie.Need-encoded-word-requires Inv-loop μ-loop
+encoded-word-requires c κs =
+    let q = c .before .before in
+    omega (arith, encoding-length (q .loop .inv) (c .before .loop-test .taken) (q .before .before .before .before .pre .0))
+
+mul-words : tie.Need-mul-words Inv-loop μ-loop
+mul-words c = omega arith
+
+slice-write-words : tie.Need-slice-write-words Inv-loop μ-loop
+slice-write-words c = omega arith
+
+add-a : tie.Need-add-a Inv-loop μ-loop
+add-a c = omega arith
+
+loop-less : tie.Need-loop-less Inv-loop μ-loop
+loop-less c = omega arith
+
+loop-again : tie.Need-loop-again Inv-loop μ-loop
+loop-again c =
+    let q = c .before .before .before in
+    encoding-next (q .loop .inv) (c .before .before .loop-test .taken) (q .before .before .before .before .pre .1) _ (c .encoded-word .ensures)
+
+same-length : tie.Need-same-length Inv-loop μ-loop
+same-length c = omega arith
+
+returns : tie.Need-returns Inv-loop μ-loop
+returns c = record { at = λ a h. c .before .loop .inv .words a (omega arith) }
+
+pub encode-rows-spec : {M : Type 1} → statement M
+encode-rows-spec =
+    tie.close
+    (tie.spec
+    Inv-loop
+    μ-loop
+    loop-holds
+    add-end
+    sub-encoded-word
+    part-encoded-word-start
+    part-encoded-word-end
+    encoded-word-requires
+    mul-words
+    slice-write-words
+    add-a
+    loop-less
+    loop-again
+    same-length
+    returns)

@@ -1,0 +1,83 @@
+-- `encoding::write_rows` meets its contract. The loop's invariant: the first i rows are written, the others as they were.
+-- Assumes nothing.
+use Prim.Native.Nat.{_-_}
+use mathlib.Core.Path.{ap₂, _∙_}
+use native.Mathlib.Omega.{arith}
+use lib.ListN.{length}
+use Rattle.field.specs.Syndrome.{digits}
+use Rattle.array.specs.Units.{rowWord}
+use Rattle.array.proofs.Bounds.{square-le}
+use Rattle.field.proofs.Sums.{digits-length}
+use Rattle.array.proofs.Loops.{Lining, lining-start, lining-room, lining-length, lining-next, lining-end}
+use Rattle.array.proofs.encoding.write_rows.Statement.{statement}
+use Rattle.array.proofs.encoding.write_rows.Tie as tie
+
+abbrev Inv-loop : tie.InvT-loop
+Inv-loop units words n cells₀ i₀ at₀ cells i at =
+    Lining n (λ j. digits n (rowWord units words (length units) j)) n cells₀ cells i at
+
+abbrev μ-loop : tie.MeasureT-loop
+μ-loop units words n cells₀ i₀ at₀ cells i at = n - i
+
+loop-holds : tie.Need-loop-holds Inv-loop μ-loop
+loop-holds c = lining-start (c .before .before .before .pre .2)
+
+add-end : tie.Need-add-end Inv-loop μ-loop
+add-end c =
+    omega (arith, lining-room (c .before .loop .inv) (c .loop-test .taken), square-le _ (c .before .before .before .before .before .pre .1))
+
+row-word-requires : tie.Need-row-word-requires Inv-loop μ-loop
+row-word-requires c κs =
+    let p = c .before .before .before .before .before .pre in
+    (p .0, omega (arith, p .1))
+
+sub-write-row : tie.Need-sub-write-row Inv-loop μ-loop
+sub-write-row c = omega arith
+
+part-write-row-start : tie.Need-part-write-row-start Inv-loop μ-loop
+part-write-row-start c = omega arith
+
+part-write-row-end : tie.Need-part-write-row-end Inv-loop μ-loop
+part-write-row-end c =
+    omega (arith, lining-room (c .before .before .loop .inv) (c .before .loop-test .taken))
+
+write-row-requires : tie.Need-write-row-requires Inv-loop μ-loop
+write-row-requires c κs = tt
+
+add-i : tie.Need-add-i Inv-loop μ-loop
+add-i c = omega arith
+
+loop-less : tie.Need-loop-less Inv-loop μ-loop
+loop-less c = omega arith
+
+loop-again : tie.Need-loop-again Inv-loop μ-loop
+loop-again c =
+    let q = c .before .before in
+    let w = q .before .before .before .before .loop .inv in
+    let h = q .before .before .before .loop-test .taken in
+    lining-next w (λ j z. digits-length _ _) h _ (q .write-row .ensures ∙ ap₂ digits (lining-length w h) (q .before .before .row-word .ensures))
+
+same-length : tie.Need-same-length Inv-loop μ-loop
+same-length c = omega (arith, c .before .loop .inv .long, c .before .before .before .before .before .pre .2)
+
+returns : tie.Need-returns Inv-loop μ-loop
+returns c = lining-end (c .before .loop .inv) (c .before .before .before .before .before .pre .2) (c .loop-test .left)
+
+pub write-rows-spec : {M : Type 1} → statement M
+write-rows-spec =
+    tie.close
+    (tie.spec
+    Inv-loop
+    μ-loop
+    loop-holds
+    add-end
+    row-word-requires
+    sub-write-row
+    part-write-row-start
+    part-write-row-end
+    write-row-requires
+    add-i
+    loop-less
+    loop-again
+    same-length
+    returns)

@@ -1,0 +1,61 @@
+// Taking the message out of an array.
+use crate::refusals::extract_tests;
+use crate::sizes::check_size_of;
+use crate::sizes::message_size_of;
+use field::degree::Degree;
+use field::degree::Named;
+use field::degree::degree_of;
+use field::degree::size_of;
+ghost use mathlib.Core.Path.{_≡_};
+ghost use Prim.Native.Nat.{_*_};
+ghost use lib.ListN.{length};
+ghost use Rattle.field.specs.Degree.{size};
+ghost use Rattle.array.specs.Encoding.{messageSize, extracted};
+ghost use Rattle.array.specs.Refusals.{Extracted};
+
+fn copy_cells(from: &[u8], to: &mut [u8])
+    requires { ⌜ length (now from) ≡ length (now to) ⌝ }
+    ensures { λ _. ⌜ now (to .exit) ≡ now (from .entry) ⌝ }
+{
+    let mut i = 0;
+    while i < to.len() {
+        to[i] = from[i];
+        i += 1;
+    }
+}
+
+// The message cells, row after row.
+fn extract_message(d: Degree, cells: &[u8], message: &mut [u8])
+    requires { ⌜ (length (now cells) ≡ size d * size d) × (length (now message) ≡ messageSize d * messageSize d) ⌝ }
+    ensures { λ _. ⌜ now (message .exit) ≡ extracted d (now (cells .entry)) ⌝ }
+{
+    let n = size_of(d);
+    let k = message_size_of(d);
+    let p = check_size_of(d);
+    let mut i = 0;
+    let mut from = p * n + p;
+    let mut to = 0;
+    while i < k {
+        copy_cells(&cells[from..from + k], &mut message[to..to + k]);
+        from += n;
+        to += k;
+        i += 1;
+    }
+}
+
+// Entry: copies the message cells of the n by n cells into the message of k by k cells, and returns the refusal number, 0 for
+// none.
+pub fn extract(degree: u64, cells: &[u8], message: &mut [u8]) -> u64
+    ensures { λ r. ⌜ Extracted degree (now (cells .entry)) (now (message .entry)) (now (message .exit)) r ⌝ }
+{
+    match degree_of(degree) {
+        Named::Known(d) => {
+            let number = extract_tests(d, cells, message.len());
+            if number == 0 {
+                extract_message(d, cells, message);
+            }
+            number
+        },
+        Named::Unknown => 1,
+    }
+}

@@ -1,0 +1,49 @@
+-- Examples that the checker computes: decimal numbers, and what is printed for a first line that is refused and for one that no
+-- line follows.
+-- Assumes nothing.
+use mathlib.Core.Path.{_≡_, refl}
+use mathlib.Core.List.{List, [], _∷_}
+use Prim.Native.Nat.{ℕ}
+use Rattle.text.specs.Text.{shaped, digits, decimal, numberText, numbersText, refusalText, sheetText, printed}
+
+zero-is : decimal 0 ≡ 48 ∷ []
+unfolding digits decimal
+zero-is = refl
+
+sixty-four-is : decimal 64 ≡ 54 ∷ 52 ∷ []
+unfolding digits decimal
+sixty-four-is = refl
+
+hundred-is : decimal 100 ≡ 49 ∷ 48 ∷ 48 ∷ []
+unfolding digits decimal
+hundred-is = refl
+
+-- the number and three zeros
+abbrev refused : ℕ → List ℕ
+refused c = c ∷ 32 ∷ 48 ∷ 32 ∷ 48 ∷ 32 ∷ 48 ∷ 10 ∷ []
+
+-- an empty input, 4 without a newline, 04, 4 with a carriage return, and 5
+nothing : printed [] ≡ refused 49
+unfolding printed refusalText numbersText numberText digits decimal
+nothing = refl
+
+no-newline : printed (52 ∷ []) ≡ refused 49
+unfolding printed refusalText numbersText numberText digits decimal
+no-newline = refl
+
+zero-four : printed (48 ∷ 52 ∷ 10 ∷ []) ≡ refused 49
+unfolding printed refusalText numbersText numberText digits decimal
+zero-four = refl
+
+carriage : printed (52 ∷ 13 ∷ 10 ∷ []) ≡ refused 49
+unfolding printed refusalText numbersText numberText digits decimal
+carriage = refl
+
+five : printed (53 ∷ 10 ∷ []) ≡ refused 49
+unfolding printed refusalText numbersText numberText digits decimal
+five = refl
+
+-- no lines after 4
+no-lines : printed (52 ∷ 10 ∷ []) ≡ refused 51
+unfolding printed sheetText shaped refusalText numbersText numberText digits decimal
+no-lines = refl

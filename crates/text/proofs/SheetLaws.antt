@@ -1,0 +1,160 @@
+-- From the lines that are read to the text that is printed: each way through the tests, and the call of decode in between.
+-- Assumes nothing.
+use mathlib.Core.Path.{_≡_, refl, sym, ap, _∙_}
+use mathlib.Core.Bool.{Bool, true, false, cond, _&&_, true≢false}
+use mathlib.Core.Logic.{dite}
+use mathlib.Core.List.{List, [], _∷_, map}
+use Prim.Native.Nat.{ℕ, suc, _+_, _-_, _*_, _<_, _≤_}
+use native.Mathlib.Nat.{mul-le-mul}
+use native.Mathlib.Decide.{decLt}
+use native.Mathlib.Omega.{arith}
+use borrow.Author.Tests.{eq-eqb, le-leb, eqb-true}
+use lib.Dec.{eqb}
+use lib.ListN.{length, take, drop, replicate, length-drop, length-replicate, List·getD-eq-default, List·getD-map}
+use lib.Seq.{take-all}
+use Rattle.laws.specs.Tests.{every}
+use Rattle.field.specs.declared.degree.Degree.{Degree}
+use Rattle.field.specs.declared.degree.Degree.the-variants.{Four, Six}
+use Rattle.field.specs.declared.degree.Named.the-variants.{Known, Unknown}
+use Rattle.field.specs.Degree.{bits, size, named}
+use Rattle.line.specs.Cells.{cell, Cells, erasures}
+use Rattle.array.specs.declared.refusals.Refusal.{Refusal}
+use Rattle.array.specs.declared.refusals.Refusal.the-variants.{BadDegree, BadIterations, BadLength, BadCell}
+use Rattle.array.specs.declared.refusals.Call.{Call}
+use Rattle.array.specs.declared.refusals.Call.the-variants.{Taken}
+use Rattle.array.specs.declared.report.Report.{Report}
+use Rattle.array.specs.declared.entry.DecodeAnswer.{DecodeAnswer}
+use Rattle.array.specs.declared.entry.DecodeAnswer.the-variants as answer
+use Rattle.array.specs.Entries.{DecodeDone, refusalOf, countOf, erasuresOf, closedOf, cellsFor, countFor, erasuresFor, closedFor}
+use Rattle.array.specs.Refusals.{number, refusalIn, atMost, decodeCall}
+use Rattle.array.specs.Plain.{plain, plainCount, closed}
+use Rattle.array.specs.Steps.{IsArray, Decoded}
+use Rattle.array.proofs.ArrayLaws.{length-lines, line-lines, line-at, each-cell}
+use Rattle.text.specs.Text.{byte, firstLine, placed, shaped, known, cellOf, cellsOf, zeros, reportText, refusalText, decodedText, sheetText}
+use Rattle.text.proofs.WritingLaws.{cells-even}
+
+-- ---- sizes
+
+pub size-le : (d : Degree) {x : ℕ} → x ≡ size d → x ≤ 64
+size-le Four e = omega arith
+size-le Six e = omega arith
+
+pub square-le : (d : Degree) {x : ℕ} → x ≡ size d → x * x ≤ 4096
+square-le d e = mul-le-mul (size-le d e) (size-le d e)
+
+-- ---- the cells that are read make an array
+
+pick-small : (p q : Bool) → cond p 1 (cond q 2 0) < 3
+pick-small true q = omega arith
+pick-small false true = omega arith
+pick-small false false = omega arith
+
+pub cells-array : (n : ℕ) (t : List ℕ) → length t ≡ n * (n + 1) → Cells 3 (n * n) (cellsOf n t)
+unfolding cellsOf
+cells-array n t e = record {
+  long = long;
+  small = each-cell (λ x. x < 3) n n (cellsOf n t) (omega arith) long (λ a b p q. rw (← line-at n (cellsOf n t) a b q, line-lines n row n a even p, List·getD-map cellOf (take n (drop (a * (n + 1)) t)) b 0) (pick-small (eqb (byte (take n (drop (a * (n + 1)) t)) b) 49) (eqb (byte (take n (drop (a * (n + 1)) t)) b) 63)));
+}
+  where
+    row : ℕ → List ℕ
+    row i = map cellOf (take n (drop (i * (n + 1)) t))
+
+    even : (i : ℕ) → i < n → length (row i) ≡ n
+    even = cells-even cellOf n t e
+
+    long : length (cellsOf n t) ≡ n * n
+    long = length-lines n row n even
+
+-- ---- the call of decode is taken
+
+zero-words : (d : Degree) → take (2 * size d) (replicate 128 0) ≡ zeros d
+zero-words Four = refl
+zero-words Six = refl
+
+pub words-are : (d : Degree) {x : ℕ} → x ≡ size d → take (2 * x) (replicate 128 0) ≡ zeros d
+words-are d e = rw e (zero-words d)
+
+small-at-most : (r : List ℕ) → ((i : ℕ) → cell r i < 3) → atMost 2 r ≡ true
+unfolding atMost
+small-at-most [] h = refl
+small-at-most (c ∷ cs) h = rw (le-leb c 2 (omega (arith, h 0))) (small-at-most cs (λ i. h (suc i)))
+
+named-bits : (d : Degree) → named (bits d) ≡ Known d
+named-bits Four = refl
+named-bits Six = refl
+
+-- a refusal has a number
+some : (why : Refusal) → number why ≡ 0 → ⊥
+some BadDegree e = omega arith
+some BadIterations e = omega arith
+some BadLength e = omega arith
+some BadCell e = omega arith
+
+module _ (d : Degree) (number′ : ℕ) (r w before : List ℕ) (e : number′ ≡ bits d) (a : IsArray d r) (l : length before ≡ size d * size d) (z : w ≡ zeros d) where
+  taken-call : decodeCall number′ 1 r w before ≡ Taken d
+  unfolding decodeCall
+  taken-call =
+      let long : length w ≡ 2 * 1 * size d = ap length z ∙ length-replicate (2 * size d) 0 ∙ omega arith in
+      rw (e, named-bits d, eq-eqb (length r) (size d * size d) (a .long), eq-eqb (length before) (size d * size d) l, eq-eqb (length w) (2 * 1 * size d) long, small-at-most r (a .small))
+
+  module _ (after : List ℕ) (o : DecodeAnswer) (done : DecodeDone number′ 1 r w before after o) where
+    -- what an answer says
+    pub decoded-answer : (t : Report) → o ≡ answer.Decoded t → Decoded d 1 r (zeros d) after t
+    decoded-answer t h = record {
+      cells = done .cells ∙ ap (λ (c : Call). cellsFor c 1 r w before) taken-call ∙ ap (plain d 1 r r) z;
+      count = sym (ap countOf h) ∙ done .count ∙ ap (λ (c : Call). countFor c 1 r w) taken-call ∙ ap (plainCount d 1 r r) z;
+      erasures = sym (ap erasuresOf h) ∙ done .erasures ∙ ap (λ (c : Call). erasuresFor c 1 r w) taken-call ∙ ap (λ (x : List ℕ). erasures (plain d 1 r r x)) z;
+      closed = sym (ap closedOf h) ∙ done .closed ∙ ap (λ (c : Call). closedFor c 1 r w) taken-call ∙ ap (λ (x : List ℕ). closed d (plain d 1 r r x)) z;
+    }
+
+    -- no answer is a refusal
+    pub never-refused : (why : Refusal) → o ≡ answer.Refused why → ⊥
+    never-refused why h = some why (sym (ap refusalOf h) ∙ done .refusal ∙ ap refusalIn taken-call)
+
+-- ---- what is printed for a decoding
+
+pub report-is : (d : Degree) {n : ℕ} (t : List ℕ) {r after : List ℕ} {u : Report} → n ≡ size d → r ≡ cellsOf n t → Decoded d 1 r (zeros d) after u
+    → reportText n after (u .count) (u .erasures) (u .closed) ≡ decodedText d (cellsOf (size d) t)
+unfolding decodedText
+report-is d t e f v = rw (v .cells, v .count, v .erasures, v .closed, f, e)
+
+-- ---- the tests
+
+and-left : (a b : Bool) → (a && b) ≡ true → a ≡ true
+and-left true b e = refl
+and-left false b e = absurd (true≢false (sym e))
+
+module _ (d : Degree) (t : List ℕ) where
+  pub shape-refused : shaped (size d) t ≡ false → refusalText 3 ≡ sheetText d t
+  unfolding sheetText
+  shape-refused e = rw e
+
+  pub character-refused : shaped (size d) t ≡ true → known t ≡ false → refusalText 4 ≡ sheetText d t
+  unfolding sheetText
+  character-refused e f = rw (e, f)
+
+  pub both-passed : shaped (size d) t ≡ true → known t ≡ true → decodedText d (cellsOf (size d) t) ≡ sheetText d t
+  unfolding sheetText
+  both-passed e f = rw (e, f)
+
+pub shaped-length : (n : ℕ) (t : List ℕ) → shaped n t ≡ true → length t ≡ n * (n + 1)
+unfolding shaped
+shaped-length n t e =
+    eqb-true (length t) (n * (n + 1)) (and-left (eqb (length t) (n * (n + 1))) (every (λ p. placed n p (byte t p)) (length t)) e)
+
+-- the test of shape at the degree's n
+pub is-of : (d : Degree) {n : ℕ} {x y : Bool} → n ≡ size d → (t : List ℕ) → x ≡ shaped n t → x ≡ y → shaped (size d) t ≡ y
+is-of d e t f g = ap (λ (k : ℕ). shaped k t) (sym e) ∙ sym f ∙ g
+
+-- a first line that names a degree has two bytes
+pub named-long : (t : List ℕ) (d : Degree) → firstLine t ≡ Known d → 2 ≤ length t
+named-long t d e = dite (decLt (length t) 2) (λ q. absurd (short q)) (λ q. omega arith)
+  where
+    short : length t < 2 → ⊥
+    short q =
+        let f : firstLine t ≡ Unknown = rw (List·getD-eq-default t 0 {n = 1} (omega arith)) in
+        let z : _≡_ {A = ℕ} 0 1 = cc in
+        omega arith
+
+pub rest-is : (t : List ℕ) → take (length t - 2) (drop 2 t) ≡ drop 2 t
+rest-is t = take-all (length t - 2) (drop 2 t) (omega (arith, length-drop 2 t))

@@ -1,0 +1,94 @@
+-- `reading::read_cells` meets its contract. The loop's invariant: the cells of the first i lines are written.
+-- Assumes nothing.
+use Prim.Native.Nat.{_+_, _*_, _-_}
+use mathlib.Core.Path.{sym, _∙_}
+use mathlib.Core.List.{map}
+use native.Mathlib.Omega.{arith}
+use lib.ListN.{take, drop}
+use Rattle.text.specs.Text.{cellOf, cellsOf}
+use Rattle.array.proofs.ArrayLaws.{length-lines}
+use Rattle.text.proofs.Testing.{room-le}
+use Rattle.text.proofs.WritingLaws.{Lined, lined-start, lined-part, lined-source, lined-part-length, lined-room, lined-next, lined-end, wrote-length, wrote-all, cells-even}
+use Rattle.text.proofs.reading.read_cells.Statement.{statement}
+use Rattle.text.proofs.reading.read_cells.Tie as tie
+
+abbrev Inv-loop : tie.InvT-loop
+Inv-loop n text cells₀ next₀ from₀ i₀ cells next from i = Lined (n + 1) (λ i. map cellOf (take n (drop (i * (n + 1)) text))) n cells₀ 0 cells next from i
+
+abbrev μ-loop : tie.MeasureT-loop
+μ-loop n text cells₀ next₀ from₀ i₀ cells next from i = n - i
+
+loop-holds : tie.Need-loop-holds Inv-loop μ-loop
+loop-holds c = lined-start _ _ _ _ _ (omega arith)
+
+add-end : tie.Need-add-end Inv-loop μ-loop
+add-end c =
+    let s = c .before .before .before .before in
+    omega (arith, lined-source (c .before .loop .inv) (c .loop-test .taken), room-le (s .args .n) (s .pre .0))
+
+sub-read-line : tie.Need-sub-read-line Inv-loop μ-loop
+sub-read-line c = omega arith
+
+part-read-line-start : tie.Need-part-read-line-start Inv-loop μ-loop
+part-read-line-start c = omega arith
+
+part-read-line-end : tie.Need-part-read-line-end Inv-loop μ-loop
+part-read-line-end c =
+    let s = c .before .before .before .before in
+    omega (arith, lined-source (c .before .loop .inv) (c .loop-test .taken), s .pre .1)
+
+read-line-requires : tie.Need-read-line-requires Inv-loop μ-loop
+read-line-requires c κs =
+    let q = c .before .before .before in
+    let s = q .before .before .before in
+    let h = c .before .before .loop-test .taken in
+    let n = s .args .n in
+    omega (arith, lined-part-length (q .loop .inv) n (s .args .text .now) h (omega arith) (s .pre .1), lined-room (q .loop .inv) n (cells-even cellOf n (s .args .text .now) (s .pre .1)) h (omega (arith, s .pre .2)))
+
+add-from : tie.Need-add-from Inv-loop μ-loop
+add-from c =
+    let q = c .before .before .before .before .before .before in
+    let s = q .before .before .before in
+    omega (arith, lined-source (q .loop .inv) (c .before .before .before .before .before .loop-test .taken), room-le (s .args .n) (s .pre .0))
+
+add-i : tie.Need-add-i Inv-loop μ-loop
+add-i c = omega arith
+
+loop-less : tie.Need-loop-less Inv-loop μ-loop
+loop-less c = omega arith
+
+loop-again : tie.Need-loop-again Inv-loop μ-loop
+loop-again c =
+    let q = c .before .before .before .before .before .before in
+    let s = q .before .before .before in
+    let w = q .loop .inv in
+    lined-next w (c .before .before .before .before .before .loop-test .taken) (rw (← lined-part w (s .args .n) (s .args .text .now)) (c .before .before .read-line .ensures)) (omega arith)
+
+same-length : tie.Need-same-length Inv-loop μ-loop
+same-length c = wrote-length (c .before .loop .inv .wrote)
+
+returns : tie.Need-returns Inv-loop μ-loop
+unfolding cellsOf
+returns c =
+    let s = c .before .before .before .before in
+    let n = s .args .n in
+    wrote-all (lined-end (c .before .loop .inv) (c .loop-test .left)) (length-lines n _ n (cells-even cellOf n (s .args .text .now) (s .pre .1)) ∙ sym (s .pre .2))
+
+pub read-cells-spec : {M : Type 1} → statement M
+read-cells-spec =
+    tie.close
+    (tie.spec
+    Inv-loop
+    μ-loop
+    loop-holds
+    add-end
+    sub-read-line
+    part-read-line-start
+    part-read-line-end
+    read-line-requires
+    add-from
+    add-i
+    loop-less
+    loop-again
+    same-length
+    returns)

@@ -1,0 +1,113 @@
+-- The text of a sheet: what the program `sheet` reads, and what it prints. Document 01, "Small lines, degree 4", the paragraph
+-- on `sheet`; open points are settled by docs/DECISIONS.md. A text is a list of bytes.
+use mathlib.Core.Bool.{Bool, cond, not, _&&_, _||_}
+use mathlib.Core.List.{List, [], _∷_, _++_, map}
+use Prim.Native.Nat.{ℕ, zero, suc, _+_, _*_, _/_, _%_}
+use lib.Dec.{eqb, ltb}
+use lib.ListN.{length, take, drop, getD, replicate}
+use Rattle.laws.specs.Bits.{bit}
+use Rattle.laws.specs.Tests.{every}
+use Rattle.field.specs.declared.degree.Degree.{Degree}
+use Rattle.field.specs.declared.degree.Degree.the-variants.{Four, Six}
+use Rattle.field.specs.declared.degree.Named.{Named}
+use Rattle.field.specs.declared.degree.Named.the-variants.{Known, Unknown}
+use Rattle.field.specs.Degree.{size}
+use Rattle.line.specs.Cells.{erasures}
+use Rattle.array.specs.Arrays.{line, lines}
+use Rattle.array.specs.Plain.{plain, plainCount, closed}
+
+-- byte p of a text; past its end a text reads 0, which is no character of a sheet
+abbrev pub byte : List ℕ → ℕ → ℕ
+byte t p = getD t p 0
+
+-- ---- what is read
+
+-- "A first line other than just 4 or 6 and a newline is 1": 52 and 54 are the characters 4 and 6, 10 the newline
+abbrev pub firstLine : List ℕ → Named
+firstLine t = cond (eqb (byte t 1) 10) (cond (eqb (byte t 0) 52) (Known Four) (cond (eqb (byte t 0) 54) (Known Six) Unknown)) Unknown
+
+-- what follows the first line
+abbrev pub afterFirst : List ℕ → List ℕ
+afterFirst t = drop 2 t
+
+-- byte p is a newline exactly if it is the last of a line of n cells and a newline
+abbrev pub placed : ℕ → ℕ → ℕ → Bool
+placed n p b = cond (eqb (p % (n + 1)) n) (eqb b 10) (not (eqb b 10))
+
+-- "Wrong byte totals or newline places are 3": n lines, each of n cells and a newline
+unfoldable pub shaped : ℕ → List ℕ → Bool
+shaped n t = eqb (length t) (n * (n + 1)) && every (λ p. placed n p (byte t p)) (length t)
+
+-- a newline, or the character of a cell: 48 is 0, 49 is 1, 63 is ?
+abbrev pub isKnown : ℕ → Bool
+isKnown b = eqb b 10 || (eqb b 48 || (eqb b 49 || eqb b 63))
+
+-- "another character is 4"
+unfoldable pub known : List ℕ → Bool
+known t = every (λ p. isKnown (byte t p)) (length t)
+
+-- the cell that a character stands for: ? is 2, unsure
+abbrev pub cellOf : ℕ → ℕ
+cellOf b = cond (eqb b 49) 1 (cond (eqb b 63) 2 0)
+
+-- the cells of n lines, row after row
+unfoldable pub cellsOf : ℕ → List ℕ → List ℕ
+cellsOf n t = lines (λ i. map cellOf (take n (drop (i * (n + 1)) t))) n
+
+-- ---- what is printed
+
+-- the digits of n, the highest first and at most k of them; 48 is the character 0
+unfoldable pub digits : ℕ → ℕ → List ℕ
+digits zero n = []
+digits (suc k) n = cond (ltb n 10) ((48 + n) ∷ []) (digits k (n / 10) ++ ((48 + n % 10) ∷ []))
+
+-- a number in decimal: no number has more than n + 1 digits
+unfoldable pub decimal : ℕ → List ℕ
+decimal n = digits (suc n) n
+
+-- a number and the byte after it
+unfoldable pub numberText : ℕ → ℕ → List ℕ
+numberText n end = decimal n ++ (end ∷ [])
+
+-- four numbers "in decimal with single spaces", and a newline
+unfoldable pub numbersText : ℕ → ℕ → ℕ → ℕ → List ℕ
+numbersText a b c e = numberText a 32 ++ (numberText b 32 ++ (numberText c 32 ++ numberText e 10))
+
+-- the character of a cell
+abbrev pub charOf : ℕ → ℕ
+charOf c = cond (eqb c 0) 48 (cond (eqb c 1) 49 63)
+
+-- a line of cells "in the same characters", and its newline
+unfoldable pub lineText : List ℕ → List ℕ
+lineText l = map charOf l ++ (10 ∷ [])
+
+unfoldable pub arrayText : ℕ → List ℕ → List ℕ
+arrayText n m = lines (λ i. lineText (line n m i)) n
+
+-- "refusal number (0 for none), count, unsure cells and closed (1 or 0)", and "the n decoded lines follow"
+unfoldable pub reportText : ℕ → List ℕ → ℕ → ℕ → Bool → List ℕ
+reportText n m count unsure shut = numbersText 0 count unsure (bit shut) ++ arrayText n m
+
+-- "unless refused": then closed is no, and every further number is 0
+unfoldable pub refusalText : ℕ → List ℕ
+refusalText number = numbersText number 0 0 0
+
+-- "It runs one iteration with zero filling": 2 n words
+abbrev pub zeros : Degree → List ℕ
+zeros d = replicate (2 * size d) 0
+
+unfoldable pub decodedText : Degree → List ℕ → List ℕ
+decodedText d r =
+    reportText (size d) (plain d 1 r r (zeros d)) (plainCount d 1 r r (zeros d)) (erasures (plain d 1 r r (zeros d))) (closed d (plain d 1 r r (zeros d)))
+
+-- what is printed for the lines after the first: the tests run in number order
+unfoldable pub sheetText : Degree → List ℕ → List ℕ
+sheetText d t = cond (shaped (size d) t) (cond (known t) (decodedText d (cellsOf (size d) t)) (refusalText 4)) (refusalText 3)
+
+abbrev pub textFor : Named → List ℕ → List ℕ
+textFor (Known d) t = sheetText d t
+textFor Unknown t = refusalText 1
+
+-- what `sheet` prints for what it reads
+unfoldable pub printed : List ℕ → List ℕ
+printed t = textFor (firstLine t) (afterFirst t)

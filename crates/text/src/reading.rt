@@ -1,0 +1,110 @@
+// What is read: the first line, the tests of the lines after it, and their cells.
+use crate::writing::put_byte;
+use field::degree::Degree;
+use field::degree::Named;
+ghost use mathlib.Core.Path.{_≡_};
+ghost use mathlib.Core.List.{map};
+ghost use Prim.Native.Nat.{_+_, _*_, _≤_};
+ghost use lib.ListN.{length};
+ghost use Rattle.text.specs.Text.{firstLine, placed, shaped, known, cellOf, cellsOf};
+ghost use Rattle.text.specs.Writing.{Wrote};
+
+pub fn first_line(text: &[u8]) -> Named
+    ensures { λ r. ⌜ r ≡ firstLine (now (text .entry)) ⌝ }
+{
+    if text.len() < 2 {
+        return Named::Unknown;
+    }
+    if text[1] != 10 {
+        return Named::Unknown;
+    }
+    if text[0] == 52 {
+        Named::Known(Degree::Four)
+    } else if text[0] == 54 {
+        Named::Known(Degree::Six)
+    } else {
+        Named::Unknown
+    }
+}
+
+// Is byte p a newline exactly if it should be one?
+fn is_placed(n: usize, p: usize, byte: u8) -> bool
+    requires { ⌜ n ≤ 64 ⌝ }
+    ensures { λ r. ⌜ r ≡ placed n p byte ⌝ }
+{
+    if p % (n + 1) == n {
+        byte == 10
+    } else {
+        byte != 10
+    }
+}
+
+// Test 3: n lines of n cells and a newline.
+pub fn is_shaped(n: usize, text: &[u8]) -> bool
+    requires { ⌜ n ≤ 64 ⌝ }
+    ensures { λ r. ⌜ r ≡ shaped n (now (text .entry)) ⌝ }
+{
+    let mut all = text.len() == n * (n + 1);
+    let mut p = 0;
+    while p < text.len() {
+        all = is_placed(n, p, text[p]) & all;
+        p += 1;
+    }
+    all
+}
+
+// Test 4: no character but a newline, 0, 1 and ?.
+pub fn is_known(text: &[u8]) -> bool
+    ensures { λ r. ⌜ r ≡ known (now (text .entry)) ⌝ }
+{
+    let mut all = true;
+    let mut p = 0;
+    while p < text.len() {
+        let b = text[p];
+        all = ((b == 10) | ((b == 48) | ((b == 49) | (b == 63)))) & all;
+        p += 1;
+    }
+    all
+}
+
+fn cell_of(byte: u8) -> u8
+    ensures { λ r. ⌜ r ≡ cellOf byte ⌝ }
+{
+    if byte == 49 {
+        1
+    } else if byte == 63 {
+        2
+    } else {
+        0
+    }
+}
+
+// The cells of a line, into `cells` from a place on; returns the place after them.
+fn read_line(text: &[u8], at: usize, cells: &mut [u8]) -> usize
+    requires { ⌜ at + length (now text) ≤ length (now cells) ⌝ }
+    ensures { λ r. ⌜ Wrote (now (cells .entry)) at (map cellOf (now (text .entry))) (now (cells .exit)) r ⌝ }
+{
+    let mut next = at;
+    let mut j = 0;
+    while j < text.len() {
+        next = put_byte(cell_of(text[j]), next, cells);
+        j += 1;
+    }
+    next
+}
+
+// The cells of n lines, each without its newline.
+pub fn read_cells(n: usize, text: &[u8], cells: &mut [u8])
+    requires { ⌜ (n ≤ 64) × (length (now text) ≡ n * (n + 1)) × (length (now cells) ≡ n * n) ⌝ }
+    ensures { λ _. ⌜ now (cells .exit) ≡ cellsOf n (now (text .entry)) ⌝ }
+{
+    let mut next = 0;
+    let mut from = 0;
+    let mut i = 0;
+    while i < n {
+        let end = from + n;
+        next = read_line(&text[from..end], next, cells);
+        from = end + 1;
+        i += 1;
+    }
+}

@@ -1,0 +1,39 @@
+// The decoding of the cells that were read.
+use array::entry::DecodeAnswer;
+use array::entry::decode;
+use array::report::Report;
+use field::degree::Degree;
+use field::degree::size_of;
+ghost use mathlib.Core.Path.{_≡_};
+ghost use Prim.Native.Nat.{_*_};
+ghost use lib.ListN.{length};
+ghost use Rattle.field.specs.Degree.{bits, size};
+ghost use Rattle.array.specs.Steps.{IsArray, Decoded};
+ghost use Rattle.text.specs.Text.{zeros};
+
+fn number_of(d: Degree) -> u64
+    ensures { λ r. ⌜ r ≡ bits d ⌝ }
+{
+    match d {
+        Degree::Four => 4,
+        Degree::Six => 6,
+    }
+}
+
+// One iteration with zero filling. The call is never refused, for the degree, the lengths and the cells are as they should be.
+pub fn decoded(d: Degree, received: &[u8], cells: &mut [u8]) -> Report
+    requires { ⌜ IsArray d (now received) × (length (now cells) ≡ size d * size d) ⌝ }
+    ensures { λ r. ⌜ Decoded d 1 (now (received .entry)) (zeros d) (now (cells .exit)) r ⌝ }
+{
+    let filling = [0u64; 128];
+    let words = 2 * size_of(d);
+    let answer = decode(number_of(d), 1, received, &filling[..words], cells);
+    match answer {
+        DecodeAnswer::Decoded(report) => report,
+        DecodeAnswer::Refused(_) => Report {
+            count: 0,
+            erasures: 0,
+            closed: false,
+        },
+    }
+}
