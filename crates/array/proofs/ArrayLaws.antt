@@ -4,11 +4,11 @@ use mathlib.Core.Path.{_≡_, refl, sym, ap, ap₂, _∙_}
 use mathlib.Core.Logic.{_⊎_, inl, inr, dite}
 use mathlib.Core.List.{List, [], _∷_, _++_}
 use Prim.Native.Nat.{ℕ, zero, suc, _+_, _*_, _/_, _%_, _<_, _≤_}
-use native.Mathlib.Nat.{add-zero, zero-add, zero-mul, suc-mul, add-comm, mod-eq-of-lt, div-eq-of-lt, mul-add-mod-self-right, mul-add-div-right, mod-lt, div-add-mod', div-lt-iff-lt-mul, mul-le-mul-right, eq-or-lt-of-le, le-of-suc-le-suc}
+use native.Mathlib.Nat.{add-zero, zero-add, zero-mul, suc-mul, mod-eq-of-lt, div-eq-of-lt, mul-add-mod-self-right, mul-add-div-right, mod-lt, div-add-mod', div-lt-iff-lt-mul, mul-le-mul-right, eq-or-lt-of-le, le-of-suc-le-suc}
 use native.Mathlib.Decide.{decLt}
 use native.Mathlib.Omega.{arith}
 use lib.ListN.{length, take, drop, getD, length-append, length-drop, List·getD-eq-default}
-use lib.Seq.{getD-take, getD-drop, length-take-le, ext-getD, drop-drop, drop-at, take-all, drop-append-le, take-append-le}
+use lib.Seq.{getD-take, getD-drop, length-take-le, ext-getD, drop-at, take-all, drop-append-le, take-append-le}
 use Rattle.line.specs.Cells.{cell, Cells}
 use Rattle.array.specs.Arrays.{line, lines, listFrom, transpose}
 
@@ -42,12 +42,6 @@ line-at n m i j h = rw (getD-take, getD-drop)
 
 pub length-line : (k n : ℕ) (m : List ℕ) (i : ℕ) → i < k → length m ≡ k * n → length (line n m i) ≡ n
 length-line k n m i h l = length-take-le n (drop (i * n) m) (rw (length-drop, l) (omega (arith, line-room k n i h)))
-
-pub line-suc : (n : ℕ) (m : List ℕ) (i : ℕ) → line n (drop n m) i ≡ line n m (suc i)
-line-suc n m i = ap (take n) (drop-drop (i * n) n m ∙ ap (λ (x : ℕ). drop x m) (add-comm n (i * n) ∙ sym (suc-mul i n)))
-
-pub line-zero : (n : ℕ) (m : List ℕ) → line n m 0 ≡ take n m
-line-zero n m = ap (λ (x : ℕ). take n (drop x m)) (zero-mul n)
 
 positive : (k n i : ℕ) → i < k * n → 0 < n
 positive zero zero i q = omega arith

@@ -8,38 +8,20 @@ use native.Mathlib.Nat.{zero-mul, one-mul, suc-mul, add-zero, add-assoc, sub-zer
 use native.Mathlib.Decide.{ℕ-discrete}
 use native.Mathlib.Numerals.{add-one}
 use native.Mathlib.Omega.{arith}
-use borrow.Author.Tests.{le-leb, lt-leb, ne-eqb}
+use borrow.Author.Tests.{ne-eqb}
 use borrow.Rule.Slice.PartMut.{putMid, same-len-mid}
 use lib.Bits.{bitXor, xor-zero-r}
 use lib.ListN.{length, take, drop, getD, set, length-set, length-drop, drop-of-length-le}
-use lib.Seq.{length-take-le, getD-take, getD-drop, ext-getD, drop-cons, take-suc-set, take-all, take-at, drop-at, drop-drop, getD-set-same, getD-set-other}
+use lib.Seq.{length-take-le, getD-take, getD-drop, ext-getD, take-suc-set, take-all, take-at, drop-at, drop-drop, getD-set-same, getD-set-other}
 use Rattle.laws.specs.Bits.{bitAt}
 use Rattle.laws.proofs.Bits.{bit-at-lt}
 use Rattle.field.specs.Syndrome.{sumOver, digits}
 use Rattle.array.specs.Arrays.{line, lines}
-use Rattle.array.specs.Refusals.{atMost}
 use Rattle.array.specs.Units.{encodedWord, rowWord, xorTo}
 use Rattle.array.proofs.ArrayLaws.{Even, line-at, length-line, length-lines, line-room}
 use Rattle.array.proofs.Bounds.{square-le}
 use Rattle.field.proofs.Sums.{cell, sum-more}
 use Rattle.array.proofs.Linear.{to-last}
-
--- ---- the test of the cells
-
-module _ (b : ℕ) (s : List ℕ) (i : ℕ) where
-  -- a cell above the bound
-  pub above : i < length s → b < getD s i 0 → atMost b (drop i s) ≡ false
-  unfolding atMost
-  above h l = rw (drop-cons s i 0 h, lt-leb (getD s i 0) b l)
-
-  -- a cell within it
-  pub within : i < length s → getD s i 0 ≤ b → atMost b (drop i s) ≡ atMost b (drop (i + 1) s)
-  unfolding atMost
-  within h l = rw (add-one i, drop-cons s i 0 h, le-leb (getD s i 0) b l)
-
-  pub tested : length s ≤ i → atMost b (drop i s) ≡ true
-  unfolding atMost
-  tested h = rw (drop-of-length-le s h)
 
 -- ---- a message row, a cell a turn
 
@@ -147,31 +129,6 @@ unfolding digits
 writing-end {word} {row₀} {row} {rest} {j} w h =
     let z : length row₀ - j ≡ 0 = omega (arith, w .long) in
     sym (append-nil row) ∙ ap₂ (λ (x : List ℕ) (k : ℕ). x ++ digits k rest) (sym (take-all j row h)) (sym z) ∙ w .left
-
--- ---- cells copied, a cell a turn
-
-pub record Copying (from to₀ to : List ℕ) (i : ℕ) : Type 0 where
-  pub low : i ≤ length to₀
-  pub long : length to ≡ length to₀
-  pub left : take i to ++ drop i from ≡ from
-
-pub copying-start : (from to : List ℕ) → Copying from to to 0
-copying-start from to = record { low = omega arith; long = refl; left = refl }
-
-pub copying-next : {from to₀ to : List ℕ} {i : ℕ} → Copying from to₀ to i → length from ≡ length to₀ → i < length to
-    → Copying from to₀ (set to i (getD from i 0)) (i + 1)
-copying-next {from} {to₀} {to} {i} w l h =
-    let q : i < length from = omega (arith, w .long) in
-    record {
-      low = omega (arith, w .long);
-      long = length-set to i (getD from i 0) ∙ w .long;
-      left = rw (add-one, take-suc-set to i (getD from i 0) h, append-assoc) (ap (λ (x : List ℕ). take i to ++ x) (sym (drop-cons from i 0 q)) ∙ w .left);
-    }
-
-pub copying-end : {from to₀ to : List ℕ} {i : ℕ} → Copying from to₀ to i → length from ≡ length to₀ → length to ≤ i → to ≡ from
-copying-end {from} {to₀} {to} {i} w l h =
-    let q : length from ≤ i = omega (arith, w .long) in
-    sym (append-nil to) ∙ ap₂ (λ (x y : List ℕ). x ++ y) (sym (take-all i to h)) (sym (drop-of-length-le from q)) ∙ w .left
 
 -- ---- lines written, a line a turn: of k lines of n cells the first i are new, the others as they were
 

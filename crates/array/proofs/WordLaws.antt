@@ -10,7 +10,7 @@ use native.Mathlib.Decide.{decLt}
 use native.Mathlib.Omega.{arith}
 use lib.ListN.{length, take, getD, length-take, List·getD-eq-default, drop-of-length-le}
 use lib.Pow.{pow-mono}
-use lib.Seq.{take-nil, ext-getD}
+use lib.Seq.{take-nil}
 use Rattle.laws.specs.Bits.{bit, bitAt}
 use Rattle.line.specs.Packed.{packBy}
 use Rattle.line.proofs.Words.{packBy-lt, packBy-bit}
@@ -70,10 +70,3 @@ words-turned {p} {n} {m} {a} {b} z few l w t = record { long = t .long; word = w
         dite (decLt i 64)
         (λ h. bits-ext 64 (getD b i 0) (packBy p (line n (transpose n n m) i)) (t .small i) (fits i) (λ j k. bits i j h k))
         (λ h. List·getD-eq-default b 0 {n = i} (omega (arith, t .long)) ∙ sym (word-past p n (transpose n n m) (length-transpose n n m) i (omega arith)))
-
--- transposed twice, words of 64 bits are themselves again
-pub turned-twice : {a b c : List ℕ} → length a ≡ 64 → ((i : ℕ) → getD a i 0 < 2 ^ 64) → Turned a b → Turned b c → c ≡ a
-turned-twice {a} {b} {c} l small s t =
-    ext-getD 0 c a (t .long ∙ sym l)
-    (λ i h. let k : i < 64 = omega (arith, t .long) in
-    bits-ext 64 (getD c i 0) (getD a i 0) (t .small i) (small i) (λ j q. t .bits i j k q ∙ s .bits j i q k))

@@ -1,4 +1,5 @@
 // The decoding of an array that was taken: in one way, from its start to its report.
+use crate::copying::copy_cells;
 use crate::halves::transpose_erased;
 use crate::iterations::run;
 use crate::packing::pack_rows;
@@ -14,18 +15,6 @@ ghost use Rattle.field.specs.Degree.{size};
 ghost use Rattle.field.specs.Tables.{Tables};
 ghost use Rattle.array.specs.Steps.{IsArray, Decoded};
 
-// The bytes of one slice, into another of that length.
-fn copy_all(from: &[u8], to: &mut [u8])
-    requires { ⌜ length (now to) ≡ length (now from) ⌝ }
-    ensures { λ _. ⌜ now (to .exit) ≡ now (from .entry) ⌝ }
-{
-    let mut i = 0;
-    while i < from.len() {
-        to[i] = from[i];
-        i += 1;
-    }
-}
-
 // Messages start as the channel's. The channel's rows and columns are packed once, for all iterations.
 pub fn decode_taken(
     d: Degree,
@@ -38,7 +27,7 @@ pub fn decode_taken(
     requires { ⌜ IsArray d (now received) × (length (now cells) ≡ size d * size d) × (length (now filling) ≡ 2 * iterations * size d) × (iterations ≤ 20) × Tables d (now tables) ⌝ }
     ensures { λ r. ⌜ Decoded d iterations (now (received .entry)) (now (filling .entry)) (now (cells .exit)) r ⌝ }
 {
-    copy_all(received, cells);
+    copy_cells(received, cells);
     let mut rowones = [0u64; 64];
     let mut rowerased = [0u64; 64];
     pack_rows(d, received, &mut rowones, &mut rowerased);

@@ -1,4 +1,5 @@
 // Taking the message out of an array.
+use crate::copying::copy_cells;
 use crate::refusals::extract_tests;
 use crate::sizes::check_size_of;
 use crate::sizes::message_size_of;
@@ -12,17 +13,6 @@ ghost use lib.ListN.{length};
 ghost use Rattle.field.specs.Degree.{size};
 ghost use Rattle.array.specs.Encoding.{messageSize, extracted};
 ghost use Rattle.array.specs.Refusals.{Extracted};
-
-fn copy_cells(from: &[u8], to: &mut [u8])
-    requires { ⌜ length (now from) ≡ length (now to) ⌝ }
-    ensures { λ _. ⌜ now (to .exit) ≡ now (from .entry) ⌝ }
-{
-    let mut i = 0;
-    while i < to.len() {
-        to[i] = from[i];
-        i += 1;
-    }
-}
 
 // The message cells, row after row.
 fn extract_message(d: Degree, cells: &[u8], message: &mut [u8])

@@ -56,10 +56,6 @@ xor-eq {a} {b} e = sym (xor-zero-r a) ∙ ap (bitXor a) (sym e) ∙ xor-cancel a
 pub xor-inj : (a : ℕ) {b c : ℕ} → bitXor a b ≡ bitXor a c → b ≡ c
 xor-inj a {b} {c} e = sym (xor-cancel a b) ∙ ap (bitXor a) e ∙ xor-cancel a c
 
--- a term goes over to the other side
-pub xor-move : (a b c : ℕ) → bitXor a b ≡ c → b ≡ bitXor c a
-xor-move a b c e = sym (xor-cancel a b) ∙ ap (bitXor a) e ∙ xor-comm a c
-
 -- a shift by one is linear
 pub xor-twice : (x y : ℕ) → bitXor x y * 2 ≡ bitXor (x * 2) (y * 2)
 xor-twice x y = sym (simp add-zero at (xor-block 1 x y 0 0 (pow-pos 1) (pow-pos 1)))

@@ -145,11 +145,6 @@ distance-set (c ∷ cs) (w ∷ ws) zero x h g = omega arith
 distance-set (c ∷ cs) (w ∷ ws) (suc k) x h g =
     omega (arith, distance-set cs ws k x (le-of-suc-le-suc h) (le-of-suc-le-suc g))
 
--- a flip keeps the length
-pub flip-length : (i : ℕ) (w : List ℕ) → length (flip i w) ≡ length w
-unfolding flip
-flip-length i w = length-set w i (1 - cell w i)
-
 -- a word with a cell flipped is a word
 pub flip-word : {n : ℕ} {w : List ℕ} (i : ℕ) → IsWord n w → IsWord n (flip i w)
 unfolding flip

@@ -9,8 +9,8 @@ use borrow.Author.Needs.{needs}
 use Rattle.array.proofs.decoding.decode_taken.Statement.{statement}
 use Rattle.array.proofs.decoding.decode_taken.Tie as tie
 
-copy-all-requires : tie.Need-copy-all-requires
-copy-all-requires c κs = search needs
+copy-cells-requires : tie.Need-copy-cells-requires
+copy-cells-requires c κs = search needs
 
 pack-rows-requires : tie.Need-pack-rows-requires
 pack-rows-requires c κs = (c .before .before .before .before .before .before .before .before .before .pre .0, zeros isOne _, zeros isErased _)
@@ -25,7 +25,7 @@ run-requires : tie.Need-run-requires
 run-requires c κs =
     let far = c .before .before .before .before .before .before .before in
     let p = far .before .before .before .before .before .before .before .before .before .before .before .before .before .before .pre in
-    let q = run-ready (far .before .before .before .before .before .before .before .before .before .copy-all .ensures) (far .before .before .before .before .pack-rows .ensures) (far .before .before .transpose-words .ensures) (far .transpose-erased .ensures) in
+    let q = run-ready (far .before .before .before .before .before .before .before .before .before .copy-cells .ensures) (far .before .before .before .before .pack-rows .ensures) (far .before .before .transpose-words .ensures) (far .transpose-erased .ensures) in
     (q .0, q .1, q .2, p .2, p .3, p .4)
 
 report-of-requires : tie.Need-report-of-requires
@@ -41,13 +41,13 @@ same-length c =
 returns : tie.Need-returns
 returns c =
     let far = c .before .before .before .before .before .before in
-    decoded (far .before .before .before .before .before .before .before .before .before .before .before .before .before .before .before .before .before .copy-all .ensures) (far .run .ensures) (c .report-of .ensures)
+    decoded (far .before .before .before .before .before .before .before .before .before .before .before .before .before .before .before .before .before .copy-cells .ensures) (far .run .ensures) (c .report-of .ensures)
 
 pub decode-taken-spec : {M : Type 1} → statement M
 decode-taken-spec =
     tie.close
     (tie.spec
-    copy-all-requires
+    copy-cells-requires
     pack-rows-requires
     transpose-words-requires
     transpose-erased-requires

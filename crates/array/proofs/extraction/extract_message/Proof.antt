@@ -84,7 +84,7 @@ part-copy-cells-end-2 c =
     omega (arith, lining-room (w .lining) h, w .lining .long)
 
 copy-cells-requires : tie.Need-copy-cells-requires Inv-loop μ-loop
-copy-cells-requires c κs = taking-part (c .before .before .before .loop .inv) (c .before .before .loop-test .taken)
+copy-cells-requires c κs = sym (taking-part (c .before .before .before .loop .inv) (c .before .before .loop-test .taken))
 
 add-from-2 : tie.Need-add-from-2 Inv-loop μ-loop
 add-from-2 c =

@@ -1,20 +1,21 @@
--- `extraction::copy_cells` meets its contract. The loop's invariant: the cells copied and those left are the source's.
+-- `copying::copy_cells` meets its contract. The loop's invariant: the first i cells are copied. The measure is the cells left.
 -- Assumes nothing.
 use Prim.Native.Nat.{_-_}
+use mathlib.Core.Path.{refl, sym, _∙_}
 use native.Mathlib.Omega.{arith}
 use lib.ListN.{length}
-use Rattle.array.proofs.Loops.{Copying, copying-start, copying-next, copying-end}
-use Rattle.array.proofs.extraction.copy_cells.Statement.{statement}
-use Rattle.array.proofs.extraction.copy_cells.Tie as tie
+use Rattle.array.proofs.ReportLaws.{Copying, copying-next, copying-end}
+use Rattle.array.proofs.copying.copy_cells.Statement.{statement}
+use Rattle.array.proofs.copying.copy_cells.Tie as tie
 
 abbrev Inv-loop : tie.InvT-loop
-Inv-loop from to₀ i₀ to i = Copying from to₀ to i
+Inv-loop from to₀ i₀ to i = Copying from to i
 
 abbrev μ-loop : tie.MeasureT-loop
-μ-loop from to₀ i₀ to i = length to₀ - i
+μ-loop from to₀ i₀ to i = length from - i
 
 loop-holds : tie.Need-loop-holds Inv-loop μ-loop
-loop-holds c = copying-start _ _
+loop-holds c = record { low = omega arith; long = c .pre; done = refl }
 
 shared-slice-read-to : tie.Need-shared-slice-read-to Inv-loop μ-loop
 shared-slice-read-to c = omega arith
@@ -29,14 +30,13 @@ loop-less : tie.Need-loop-less Inv-loop μ-loop
 loop-less c = omega arith
 
 loop-again : tie.Need-loop-again Inv-loop μ-loop
-loop-again c =
-    copying-next (c .before .before .loop .inv) (c .before .before .before .pre) (c .before .loop-test .taken)
+loop-again c = copying-next (c .before .before .loop .inv) (c .before .loop-test .taken)
 
 same-length : tie.Need-same-length Inv-loop μ-loop
-same-length c = omega arith
+same-length c = c .before .loop .inv .long ∙ sym (c .before .before .pre)
 
 returns : tie.Need-returns Inv-loop μ-loop
-returns c = copying-end (c .before .loop .inv) (c .before .before .pre) (c .loop-test .left)
+returns c = copying-end (c .before .loop .inv) (c .loop-test .left)
 
 pub copy-cells-spec : {M : Type 1} → statement M
 copy-cells-spec =
