@@ -26,7 +26,7 @@ use Rattle.field.specs.Field.{double, timesPower, power}
 use Rattle.field.specs.Syndrome.{sumOver, ones, digits, parity}
 use Rattle.field.proofs.Powers.{power-lt}
 use Rattle.line.specs.Codeword.{Codeword}
-use Rattle.line.proofs.CellLaws.{Bits, take-bits}
+use Rattle.packed.proofs.CellLaws.{Bits, take-bits}
 use Rattle.line.proofs.Distances.{word-parity}
 use Rattle.array.specs.Encoding.{checkSize, messageSize, checkTable, sums, checksFor, checkCells, encodeLine, messageOf}
 use Rattle.field.proofs.Sums.{sum-lt, sum-ones, sum-append, digits-length}

@@ -16,7 +16,7 @@ use Rattle.laws.specs.Bits.{bit, bitAt}
 use Rattle.laws.proofs.Bits.{bit-lt, bit-one, shift-more}
 use Rattle.laws.proofs.Xor.{xors, bit-ind, digit-lt, xor-digit, xor-assoc, xor-scale, scale-xor}
 use Rattle.field.specs.Syndrome.{sumOver, digits}
-use Rattle.line.proofs.CellLaws.{Bits}
+use Rattle.packed.proofs.CellLaws.{Bits}
 pub use Rattle.array.specs.Units.{pack, xorTo}
 use Rattle.field.proofs.Sums.{sum-cong, sum-zero, sum-lt, sum-append, digits-length}
 

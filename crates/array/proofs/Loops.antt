@@ -16,9 +16,9 @@ use lib.Seq.{length-take-le, getD-take, getD-drop, ext-getD, take-suc-set, take-
 use Rattle.laws.specs.Bits.{bitAt}
 use Rattle.laws.proofs.Bits.{bit-at-lt}
 use Rattle.field.specs.Syndrome.{sumOver, digits}
-use Rattle.array.specs.Arrays.{line, lines}
+use Rattle.packed.specs.Arrays.{line, lines}
 use Rattle.array.specs.Units.{encodedWord, rowWord, xorTo}
-use Rattle.array.proofs.ArrayLaws.{Even, line-at, length-line, length-lines, line-room}
+use Rattle.packed.proofs.ArrayLaws.{Even, line-at, length-line, length-lines, line-room}
 use Rattle.array.proofs.Bounds.{square-le}
 use Rattle.field.proofs.Sums.{cell, sum-more}
 use Rattle.array.proofs.Linear.{to-last}

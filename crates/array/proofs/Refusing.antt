@@ -13,16 +13,15 @@ use Rattle.field.specs.declared.degree.Degree.{Degree}
 use Rattle.field.specs.declared.degree.Named.{Named}
 use Rattle.field.specs.declared.degree.Named.the-variants.{Known, Unknown}
 use Rattle.field.specs.Degree.{size}
-use Rattle.line.specs.Cells.{cell, IsWord}
-use Rattle.array.specs.Arrays.{line}
+use Rattle.packed.specs.Cells.{IsWord}
+use Rattle.line.specs.Refusals.{atMost}
+use Rattle.line.proofs.EntryLaws.{at-most-small}
+use Rattle.laws.proofs.Tests.{and-true}
+use Rattle.packed.specs.Arrays.{line}
 use Rattle.array.specs.Encoding.{messageSize}
-use Rattle.array.specs.Refusals.{atMost, test, refusal, left, encodeTests, extractTests, rowTests}
-use Rattle.array.proofs.ArrayLaws.{line-room}
+use Rattle.array.specs.Refusals.{test, refusal, left, encodeTests, extractTests, rowTests}
+use Rattle.packed.proofs.ArrayLaws.{line-room}
 use Rattle.array.proofs.Bounds.{square-le, size-le}
-
-and-true : (a b : Bool) → (a && b) ≡ true → (a ≡ true) × (b ≡ true)
-and-true true b e = (refl, e)
-and-true false b e = absurd (true≢false (sym e))
 
 -- ---- the tests of a taken call pass
 
@@ -30,13 +29,6 @@ passed : (p q : Bool) → test 3 p (test 4 q 0) ≡ 0 → (p ≡ true) × (q ≡
 passed true true e = (refl, refl)
 passed true false e = absurd (omega arith)
 passed false q e = absurd (omega arith)
-
--- cells that pass the test are below the bound
-pub at-most-small : (b : ℕ) (s : List ℕ) → atMost b s ≡ true → (i : ℕ) → cell s i < suc b
-unfolding atMost
-at-most-small b [] e i = omega arith
-at-most-small b (c ∷ cs) e zero = omega (arith, leb-true c b (and-true (leb c b) (atMost b cs) e .0))
-at-most-small b (c ∷ cs) e (suc i) = at-most-small b cs (and-true (leb c b) (atMost b cs) e .1) i
 
 module _ (d : Degree) where
   pub encode-taken : (m : List ℕ) (long : ℕ) → encodeTests m long d ≡ 0

@@ -9,9 +9,9 @@ use Rattle.field.specs.declared.degree.Degree.the-variants.{Four, Six}
 use Rattle.field.specs.Degree.{bits, size, order}
 use Rattle.field.specs.Field.{power}
 use Rattle.field.specs.Syndrome.{sumOver, ones, digits}
-use Rattle.line.specs.Cells.{IsWord}
+use Rattle.packed.specs.Cells.{IsWord}
 use Rattle.line.specs.Codeword.{Codeword}
-use Rattle.array.specs.Arrays.{line, lines, transpose, column}
+use Rattle.packed.specs.Arrays.{line, lines, transpose, column}
 
 -- 2v: the cells below the message cells, which are check cells
 abbrev pub checkSize : Degree → ℕ

@@ -1,9 +1,3 @@
-pub mod Arrays
 pub mod Encoding
-pub mod Plain
 pub mod Refusals
-pub mod Entries
 pub mod Units
-pub mod PackedRows
-pub mod Network
-pub mod Steps

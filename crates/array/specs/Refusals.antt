@@ -1,65 +1,18 @@
--- When a call is turned down. Document 01: tests run in number order; the first that applies is returned with count 0, and
--- every lent cell keeps its value.
+-- When encode, extract or the look-up of a row is turned down. Document 01: tests run in number order; the first that applies is
+-- returned, and every lent cell keeps its value. These entries answer with the number itself.
 use mathlib.Core.Path.{_≡_}
-use mathlib.Core.Bool.{Bool, true, false, cond, _&&_}
-use mathlib.Core.List.{List, [], _∷_}
+use mathlib.Core.Bool.{Bool, cond, _&&_}
+use mathlib.Core.List.{List, []}
 use Prim.Native.Nat.{ℕ, _*_}
-use lib.Dec.{eqb, ltb, leb}
+use lib.Dec.{eqb, ltb}
 use lib.ListN.{length}
 use Rattle.field.specs.declared.degree.Degree.{Degree}
 use Rattle.field.specs.declared.degree.Named.{Named}
 use Rattle.field.specs.declared.degree.Named.the-variants.{Known, Unknown}
 use Rattle.field.specs.Degree.{size, named}
-use Rattle.array.specs.Arrays.{line}
+use Rattle.line.specs.Refusals.{atMost}
+use Rattle.packed.specs.Arrays.{line}
 use Rattle.array.specs.Encoding.{messageSize, encodeArray, extracted}
-use Rattle.array.specs.declared.refusals.Refusal.{Refusal}
-use Rattle.array.specs.declared.refusals.Refusal.the-variants.{BadDegree, BadIterations, BadLength, BadCell}
-use Rattle.array.specs.declared.refusals.Call.{Call}
-use Rattle.array.specs.declared.refusals.Call.the-variants.{Taken, Refused}
-
--- the numbers of document 01's table
-abbrev pub number : Refusal → ℕ
-number BadDegree = 1
-number BadIterations = 2
-number BadLength = 3
-number BadCell = 4
-
--- the number of the test that turned a call down, 0 for none
-abbrev pub refusalIn : Call → ℕ
-refusalIn (Refused why) = number why
-refusalIn (Taken d) = 0
-
--- 2: iterations 0 or above 20
-abbrev pub counted : ℕ → Bool
-counted l = leb 1 l && leb l 20
-
--- 3: a lent slice not of the exact length; n by n cells received and as many to write are asked for, and 2 × L × n filling words
-abbrev pub fitting : (n iterations : ℕ) (received filling cells : List ℕ) → Bool
-fitting n l received filling cells =
-    eqb (length received) (n * n) && (eqb (length cells) (n * n) && eqb (length filling) (2 * l * n))
-
--- 4: a cell above 2; no cell is above b
-unfoldable pub atMost : ℕ → List ℕ → Bool
-atMost b [] = true
-atMost b (c ∷ cs) = leb c b && atMost b cs
-
--- the tests 2, 3 and 4 in their order, each with whether it is passed
-abbrev pub tested : (iterations lengths cells : Bool) → Degree → Call
-tested true true true d = Taken d
-tested true true false d = Refused BadCell
-tested true false cells d = Refused BadLength
-tested false lengths cells d = Refused BadIterations
-
--- 1: degree not 4 or 6; it comes first, for the lengths ask for the degree
-abbrev pub decodeTested : Named → (iterations : ℕ) (received filling cells : List ℕ) → Call
-decodeTested Unknown l received filling cells = Refused BadDegree
-decodeTested (Known d) l received filling cells = tested (counted l) (fitting (size d) l received filling cells) (atMost 2 received) d
-
--- a call of decode; the old cells of the slice that is only written are not tested
-unfoldable pub decodeCall : (degree iterations : ℕ) (received filling cells : List ℕ) → Call
-decodeCall degree l received filling cells = decodeTested (named degree) l received filling cells
-
--- ---- encode, extract and the look-up of a row answer with the number itself
 
 -- a test: where it fails its number, else what the tests after it give, 0 in the end
 abbrev pub test : ℕ → Bool → ℕ → ℕ

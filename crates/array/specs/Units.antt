@@ -8,7 +8,7 @@ use lib.ListN.{length, getD}
 use Rattle.laws.specs.Bits.{bitAt}
 use Rattle.field.specs.declared.degree.Degree.{Degree}
 use Rattle.field.specs.Syndrome.{sumOver, digits}
-use Rattle.array.specs.Arrays.{line}
+use Rattle.packed.specs.Arrays.{line}
 use Rattle.array.specs.Encoding.{messageSize, encodeLine}
 
 -- the number whose bit i is cell i of a word

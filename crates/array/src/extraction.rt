@@ -1,5 +1,5 @@
 // Taking the message out of an array.
-use crate::copying::copy_cells;
+use packed::copying::copy_cells;
 use crate::refusals::extract_tests;
 use crate::sizes::check_size_of;
 use crate::sizes::message_size_of;

@@ -1,5 +1,5 @@
 use field::degree::Degree;
-use line::packed::Line;
+use packed::line::Line;
 ghost use mathlib.Core.Path.{_≡_};
 ghost use Rattle.array.specs.Encoding.{checkSize, messageSize};
 

@@ -1,4 +1,4 @@
--- Answers in packed words: the choice of two, giving a line back, and the start of a line's messages.
+-- Answers in packed words: the choice of two, and giving a line back.
 -- Assumes nothing.
 use mathlib.Core.Path.{_≡_, refl, sym, _∙_, subst}
 use mathlib.Core.Bool.{true, false, true≢false}
@@ -7,17 +7,14 @@ use Prim.Native.Nat.{ℕ, _≤_, _<_}
 use native.Mathlib.Nat.{le-refl}
 use native.Mathlib.Omega.{arith}
 use borrow.Author.Tests.{lt-ltb, le-ltb}
-use Rattle.field.specs.declared.degree.Degree.{Degree}
-use Rattle.field.specs.Degree.{size}
-use Rattle.line.specs.declared.cells.Side.the-variants.{One, Two}
-use Rattle.line.specs.declared.packed.Line.{Line}
+use Rattle.packed.specs.declared.line.Line.{Line}
 use Rattle.line.specs.declared.bounded.Tried.{Tried}
-use Rattle.line.specs.Cells.{erasures, few, distance, filled}
-use Rattle.line.specs.Bounded.{Answer, orBack, bounded}
-use Rattle.line.specs.Decoding.{choice, decode}
-use Rattle.line.specs.Packed.{Packs, PacksWord}
-use Rattle.line.specs.Working.{Answers, failed, found, start}
-use Rattle.line.proofs.Packing.{as-line, differences-of}
+use Rattle.packed.specs.Cells.{erasures, few, distance}
+use Rattle.line.specs.Bounded.{Answer, orBack}
+use Rattle.line.specs.Decoding.{choice}
+use Rattle.packed.specs.Packed.{Packs, PacksWord}
+use Rattle.line.specs.Working.{Answers, failed, found}
+use Rattle.packed.proofs.Packing.{as-line, differences-of}
 
 -- ---- the choice of two answers
 
@@ -69,12 +66,3 @@ module _ (ys : List ℕ) (e : ℕ) (h : e ≡ erasures ys) where
 
   pub is-many : 6 ≤ e → few ys ≡ false
   is-many l = le-ltb (erasures ys) 6 (omega arith)
-
-module _ (d : Degree) (ys : List ℕ) (f : ℕ) {l : Line} where
-  pub few-start : (rs : List ℕ) → few ys ≡ true → Packs (size d) (orBack ys (choice ys (bounded d (filled One ys f)) (bounded d (filled Two ys f)))) l → Packs (size d) (start d ys rs f) l
-  unfolding start decode
-  few-start rs e p = rw e p
-
-  pub many-start : (rs : List ℕ) → few ys ≡ false → Packs (size d) rs l → Packs (size d) (start d ys rs f) l
-  unfolding start
-  many-start rs e p = rw e p

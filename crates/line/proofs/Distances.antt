@@ -25,10 +25,11 @@ use Rattle.field.specs.Syndrome.{sumOver, ones, s1, s3, parity}
 use Rattle.field.specs.Fitting.{Within}
 use Rattle.field.proofs.Uniqueness.{unique}
 use Rattle.field.proofs.Primitive.{primitive}
-use Rattle.line.specs.Cells.{IsWord, distance}
+use Rattle.packed.specs.Cells.{IsWord, distance}
 use Rattle.line.specs.Codeword.{Codeword, isCodeword}
-use Rattle.line.specs.Bounded.{Answer, Found, Failed, flip, orElse, firstOf, itself, oneFlipped, twoFlipped, within2, bounded}
-use Rattle.line.proofs.CellLaws.{take-bits, word-known, distance-self, distance-parts, distance-length, triangle}
+use Rattle.line.specs.Bounded.{Answer, Found, Failed, orElse, firstOf, itself, oneFlipped, twoFlipped, within2, bounded}
+use Rattle.packed.specs.Cells.{flip}
+use Rattle.packed.proofs.CellLaws.{take-bits, word-known, distance-self, distance-parts, distance-length, triangle}
 use Rattle.line.proofs.SumLaws.{ones-distance}
 use Rattle.line.proofs.Flips.{flipped, Reached, reached, distance-zero, Between, between, flipped-word, flipped-near, flipped-sum}
 use Rattle.line.proofs.Decoders.{Decoder, found-failed}

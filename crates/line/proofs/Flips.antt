@@ -15,9 +15,9 @@ use Rattle.field.specs.declared.locate.Positions.the-variants.{Zero, One, Two, 
 use Rattle.field.specs.Positions.{total}
 use Rattle.field.specs.Syndrome.{sumOver, ones}
 use Rattle.field.specs.Fitting.{Within}
-use Rattle.line.specs.Cells.{IsWord, differs, distance}
-use Rattle.line.specs.Bounded.{flip}
-use Rattle.line.proofs.CellLaws.{Bits, differs-equal, differs-other, flip-word, distance-self, distance-flip}
+use Rattle.packed.specs.Cells.{IsWord, differs, distance}
+use Rattle.packed.specs.Cells.{flip}
+use Rattle.packed.proofs.CellLaws.{Bits, differs-equal, differs-other, flip-word, distance-self, distance-flip}
 use Rattle.line.proofs.SumLaws.{sum-flip, ones-flip, take-flip}
 
 -- the word with the cells at the positions flipped

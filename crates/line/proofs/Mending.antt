@@ -21,11 +21,12 @@ use Rattle.field.specs.Syndrome.{sumOver, s1, s3, parity}
 use Rattle.field.specs.Fitting.{Within, Fits}
 use Rattle.field.proofs.Uniqueness.{unique}
 use Rattle.field.proofs.Primitive.{primitive}
-use Rattle.line.specs.Cells.{IsWord, distance}
+use Rattle.packed.specs.Cells.{IsWord, distance}
 use Rattle.line.specs.Codeword.{Codeword}
-use Rattle.line.specs.Bounded.{Answer, Found, Failed, flip, bounded}
+use Rattle.line.specs.Bounded.{Answer, Found, Failed, bounded}
+use Rattle.packed.specs.Cells.{flip}
 use Rattle.line.specs.Working.{mended}
-use Rattle.line.proofs.CellLaws.{distance-parts}
+use Rattle.packed.proofs.CellLaws.{distance-parts}
 use Rattle.line.proofs.SumLaws.{ones-distance, take-flip, take-flip-past}
 use Rattle.line.proofs.Flips.{flipped, many, Reached, reached, within-le, flipped-word, flipped-near, flipped-sum, flipped-ones, take-flipped}
 use Rattle.line.proofs.Distances.{front-word, word-parity, finds-exactly, fails-exactly}

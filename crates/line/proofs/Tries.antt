@@ -19,11 +19,12 @@ use Rattle.field.specs.Positions.{located}
 use Rattle.field.proofs.Primitive.{primitive}
 use Rattle.field.proofs.Locating.{located-fits, located-none}
 use Rattle.line.specs.declared.bounded.Tried.{Tried}
-use Rattle.line.specs.Bounded.{flip, bounded}
-use Rattle.line.specs.Packed.{PacksWord}
+use Rattle.packed.specs.Cells.{flip}
+use Rattle.line.specs.Bounded.{bounded}
+use Rattle.packed.specs.Packed.{PacksWord}
 use Rattle.line.specs.Working.{Answers, failed, found, mended, Below}
 use Rattle.line.proofs.Mending.{answer-mends}
-use Rattle.line.proofs.RowLaws.{word-sums}
+use Rattle.packed.proofs.RowLaws.{word-sums}
 
 pub last-below : (d : Degree) → order d < size d
 last-below d = omega (arith, primitive d .more)

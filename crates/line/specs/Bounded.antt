@@ -2,10 +2,10 @@
 -- codeword lies within 2. Here it is a search: the word itself, else the word with one cell flipped, else with two.
 use mathlib.Core.Bool.{Bool, true, false, cond}
 use mathlib.Core.List.{List}
-use Prim.Native.Nat.{ℕ, zero, suc, _-_}
-use lib.ListN.{length, set}
+use Prim.Native.Nat.{ℕ, zero, suc}
+use lib.ListN.{length}
 use Rattle.field.specs.declared.degree.Degree.{Degree}
-use Rattle.line.specs.Cells.{cell}
+use Rattle.packed.specs.Cells.{flip}
 use Rattle.line.specs.Codeword.{isCodeword}
 
 pub data Answer : Type 0 where
@@ -16,9 +16,6 @@ pub data Answer : Type 0 where
 abbrev pub orBack : List ℕ → Answer → List ℕ
 orBack y (Found c) = c
 orBack y Failed = y
-
-unfoldable pub flip : ℕ → List ℕ → List ℕ
-flip i w = set w i (1 - cell w i)
 
 abbrev pub orElse : Answer → Answer → Answer
 orElse (Found c) b = Found c

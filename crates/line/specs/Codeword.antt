@@ -7,7 +7,7 @@ use lib.Dec.{eqb}
 use Rattle.field.specs.declared.degree.Degree.{Degree}
 use Rattle.field.specs.Degree.{size}
 use Rattle.field.specs.Syndrome.{s1, s3, parity}
-use Rattle.line.specs.Cells.{IsWord}
+use Rattle.packed.specs.Cells.{IsWord}
 
 pub record Codeword (d : Degree) (c : List ℕ) : Type 0 where
   pub word : IsWord (size d) c

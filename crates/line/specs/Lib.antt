@@ -1,11 +1,6 @@
-pub mod Cells
 pub mod Codeword
 pub mod Bounded
 pub mod Decoding
-pub mod Clauses
-pub mod Packed
-pub mod Bytes
 pub mod Working
-pub mod Rows
 pub mod Refusals
 pub mod Entries

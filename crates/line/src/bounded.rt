@@ -1,5 +1,5 @@
 // Bounded-distance decoding of a packed word.
-use crate::packed::flip_bit;
+use packed::line::flip_bit;
 use field::degree::Degree;
 use field::degree::order_of;
 use field::locate::Positions;
@@ -12,8 +12,9 @@ ghost use mathlib.Core.List.{List};
 ghost use Prim.Native.Nat.{ℕ, _+_, _<_};
 ghost use Rattle.field.specs.Degree.{size};
 ghost use Rattle.field.specs.Tables.{Tables};
-ghost use Rattle.line.specs.Bounded.{flip, bounded};
-ghost use Rattle.line.specs.Packed.{PacksWord};
+ghost use Rattle.packed.specs.Cells.{flip};
+ghost use Rattle.line.specs.Bounded.{bounded};
+ghost use Rattle.packed.specs.Packed.{PacksWord};
 ghost use lib.Dec.{eqb};
 ghost use Rattle.line.specs.Working.{Answers, Below, mended};
 

@@ -1,10 +1,10 @@
 // Line decoding in the order of Algorithm 1 of source document 000.
 use crate::bounded::Tried;
 use crate::bounded::counted;
-use crate::packed::Line;
-use crate::packed::count_differences;
-use crate::packed::count_erasures;
-use crate::packed::fill;
+use packed::line::Line;
+use packed::line::count_differences;
+use packed::line::count_erasures;
+use packed::line::fill;
 use field::degree::Degree;
 use field::tables::FieldTables;
 ghost use mathlib.Core.Path.{_≡_};
@@ -12,10 +12,10 @@ ghost use mathlib.Core.List.{List};
 ghost use Prim.Native.Nat.{ℕ, _+_, _*_, _<_, _≤_};
 ghost use Rattle.field.specs.Degree.{size};
 ghost use Rattle.field.specs.Tables.{Tables};
-ghost use Rattle.line.specs.Cells.{few, bit};
+ghost use Rattle.packed.specs.Cells.{few, bit};
 ghost use Rattle.line.specs.Bounded.{Answer, bounded, orBack};
 ghost use Rattle.line.specs.Decoding.{choice, decode, decoded};
-ghost use Rattle.line.specs.Packed.{Packs};
+ghost use Rattle.packed.specs.Packed.{Packs};
 ghost use Rattle.line.specs.Working.{Answers};
 
 // A line, and the decodings counted so far.

@@ -4,108 +4,30 @@ use crate::bounded::Tried;
 use crate::bounded::counted;
 use crate::decoding::or_back;
 use crate::decoding::try_packed;
-use crate::messages::messages_of;
-use crate::packed::Line;
-use crate::packed::fill;
-use crate::packed::pack;
-use crate::packed::unpack;
-use crate::row::update_row;
+use crate::refusals::Call;
+use crate::refusals::Refusal;
+use crate::refusals::line_test;
 use field::degree::Degree;
-use field::degree::Named;
-use field::degree::degree_of;
 use field::tables::make_tables;
+use packed::line::Line;
+use packed::line::fill;
+use packed::line::pack;
+use packed::row::update_row;
 ghost use mathlib.Core.Path.{_≡_};
-ghost use mathlib.Core.List.{List};
 ghost use Prim.Native.Nat.{ℕ, _%_};
 ghost use lib.ListN.{length};
 ghost use Rattle.field.specs.Degree.{size};
-ghost use Rattle.line.specs.Cells.{IsLine, IsWord};
+ghost use Rattle.packed.specs.Cells.{IsLine, IsWord};
 ghost use Rattle.line.specs.Bounded.{Answer, bounded};
-ghost use Rattle.line.specs.Decoding.{decode, messages as messagesBy};
-ghost use Rattle.line.specs.Clauses.{count as countBy};
-ghost use Rattle.line.specs.Packed.{Packs};
+ghost use Rattle.line.specs.Decoding.{decode};
+ghost use Rattle.packed.specs.Packed.{Packs};
 ghost use Rattle.line.specs.Working.{Answers};
-ghost use Rattle.line.specs.Refusals.{allBelow, shaped, lineCall, messagesCall};
-ghost use Rattle.line.specs.Entries.{Answered, BoundedDone, DecodeDone, MessagesDone};
-
-// Why a call is turned down: document 01's numbers 1, 3 and 4.
-pub enum Refusal {
-    BadDegree,
-    BadLength,
-    BadCell,
-}
-
-// A call that was tested.
-pub enum Call {
-    Taken(Degree),
-    Refused(Refusal),
-}
+ghost use Rattle.line.specs.Entries.{Answered, BoundedDone, DecodeDone};
 
 pub enum LineAnswer {
     Refused(Refusal),
     Failed,
     Found,
-}
-
-pub enum MessagesAnswer {
-    Refused(Refusal),
-    Sent(u64),
-}
-
-// ---- the tests
-
-fn all_below(cells: &[u8], bound: u8) -> bool
-    ensures { λ r. ⌜ r ≡ allBelow bound (now (cells .entry)) ⌝ }
-{
-    let mut i = 0;
-    while i < cells.len() {
-        if cells[i] >= bound {
-            return false;
-        }
-        i += 1;
-    }
-    true
-}
-
-// Lengths come before cells.
-fn shape_test(d: Degree, long: bool, small: bool) -> Call
-    ensures { λ r. ⌜ r ≡ shaped long small d ⌝ }
-{
-    if !long {
-        Call::Refused(Refusal::BadLength)
-    } else if !small {
-        Call::Refused(Refusal::BadCell)
-    } else {
-        Call::Taken(d)
-    }
-}
-
-fn line_test(degree: u64, cells: &[u8], bound: u8) -> Call
-    ensures { λ r. ⌜ r ≡ lineCall bound degree (now (cells .entry)) ⌝ }
-{
-    let named = degree_of(degree);
-    match named {
-        Named::Known(d) => {
-            let n = Line::cells(d);
-            shape_test(d, cells.len() == n, all_below(cells, bound))
-        }
-        Named::Unknown => Call::Refused(Refusal::BadDegree),
-    }
-}
-
-fn messages_test(degree: u64, incoming: &[u8], channel: &[u8], messages: &[u8]) -> Call
-    ensures { λ r. ⌜ r ≡ messagesCall degree (now (incoming .entry)) (now (channel .entry)) (now (messages .entry)) ⌝ }
-{
-    let named = degree_of(degree);
-    match named {
-        Named::Known(d) => {
-            let n = Line::cells(d);
-            let long = (incoming.len() == n) & ((channel.len() == n) & (messages.len() == n));
-            let small = all_below(incoming, 3) & all_below(channel, 3);
-            shape_test(d, long, small)
-        }
-        Named::Unknown => Call::Refused(Refusal::BadDegree),
-    }
 }
 
 // ---- one word, one line
@@ -144,26 +66,13 @@ fn decode_taken(d: Degree, cells: &mut [u8], filling: u64) -> LineAnswer
     answer_in(cells, y, t)
 }
 
-// The messages are written, the count is handed back.
-fn send_taken(d: Degree, incoming: &[u8], channel: &[u8], filling: u64, messages: &mut [u8]) -> u64
-    requires { ⌜ IsLine (size d) (now incoming) × IsLine (size d) (now channel) × (length (now messages) ≡ size d) ⌝ }
-    ensures { λ r. ⌜ (r ≡ countBy (bounded d) (now (incoming .entry)) (now (channel .entry)) filling) × (now (messages .exit) ≡ messagesBy (bounded d) (now (incoming .entry)) (now (channel .entry)) filling) ⌝ }
-{
-    let tables = make_tables(d);
-    let y = pack(incoming);
-    let r = pack(channel);
-    let sent = messages_of(d, y, r, filling, &tables);
-    unpack(sent.line, messages);
-    sent.count
-}
-
 // ---- the entries
 
 // Bounded-distance decoding of a full word, in place.
 pub fn bounded_distance(degree: u64, word: &mut [u8]) -> LineAnswer
     ensures { λ r. ⌜ BoundedDone degree (now (word .entry)) (now (word .exit)) r ⌝ }
 {
-    let call = line_test(degree, word, 2);
+    let call = line_test(degree, word, 1);
     match call {
         Call::Taken(d) => bounded_taken(d, word),
         Call::Refused(why) => LineAnswer::Refused(why),
@@ -174,26 +83,9 @@ pub fn bounded_distance(degree: u64, word: &mut [u8]) -> LineAnswer
 pub fn decode_line(degree: u64, cells: &mut [u8], filling: u64) -> LineAnswer
     ensures { λ r. ⌜ DecodeDone degree filling (now (cells .entry)) (now (cells .exit)) r ⌝ }
 {
-    let call = line_test(degree, cells, 3);
+    let call = line_test(degree, cells, 2);
     match call {
         Call::Taken(d) => decode_taken(d, cells, filling),
         Call::Refused(why) => LineAnswer::Refused(why),
-    }
-}
-
-// The outgoing messages of a line, written to `messages`, and its count.
-pub fn line_messages(
-    degree: u64,
-    incoming: &[u8],
-    channel: &[u8],
-    filling: u64,
-    messages: &mut [u8],
-) -> MessagesAnswer
-    ensures { λ r. ⌜ MessagesDone degree (now (incoming .entry)) (now (channel .entry)) filling (now (messages .entry)) (now (messages .exit)) r ⌝ }
-{
-    let call = messages_test(degree, incoming, channel, messages);
-    match call {
-        Call::Taken(d) => MessagesAnswer::Sent(send_taken(d, incoming, channel, filling, messages)),
-        Call::Refused(why) => MessagesAnswer::Refused(why),
     }
 }

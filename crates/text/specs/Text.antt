@@ -12,9 +12,9 @@ use Rattle.field.specs.declared.degree.Degree.the-variants.{Four, Six}
 use Rattle.field.specs.declared.degree.Named.{Named}
 use Rattle.field.specs.declared.degree.Named.the-variants.{Known, Unknown}
 use Rattle.field.specs.Degree.{size}
-use Rattle.line.specs.Cells.{erasures}
-use Rattle.array.specs.Arrays.{line, lines}
-use Rattle.array.specs.Plain.{plain, plainCount, closed}
+use Rattle.packed.specs.Cells.{erasures}
+use Rattle.packed.specs.Arrays.{line, lines}
+use Rattle.decoder.specs.Plain.{plain, plainCount, closed}
 
 -- byte p of a text; past its end a text reads 0, which is no character of a sheet
 abbrev pub byte : List ℕ → ℕ → ℕ

@@ -1,14 +1,14 @@
 // The decoding of the cells that were read.
-use array::entry::DecodeAnswer;
-use array::entry::decode;
-use array::report::Report;
+use decoder::entry::DecodeAnswer;
+use decoder::entry::decode;
+use decoder::report::Report;
 use field::degree::Degree;
 use field::degree::size_of;
 ghost use mathlib.Core.Path.{_≡_};
 ghost use Prim.Native.Nat.{_*_};
 ghost use lib.ListN.{length};
 ghost use Rattle.field.specs.Degree.{bits, size};
-ghost use Rattle.array.specs.Steps.{IsArray, Decoded};
+ghost use Rattle.decoder.specs.Steps.{IsArray, Decoded};
 ghost use Rattle.text.specs.Text.{zeros};
 
 fn number_of(d: Degree) -> u64

@@ -17,7 +17,7 @@ enum-known-call c = search needs
 bounded-taken-requires : tie.Need-bounded-taken-requires
 bounded-taken-requires c κs =
     let s = c .before .before .before .before .before .before .before in
-    line-taken 2 (s .args .degree) (s .args .word .now) _ (omega arith)
+    line-taken 1 (s .args .degree) (s .args .word .now) _
     (sym (c .before .before .before .before .line-test .ensures) ∙ c .before .before .call .given .1)
 
 enum-known-call-2 : tie.Need-enum-known-call-2

@@ -1,9 +1,9 @@
 -- `line::entry::bounded_taken` meets its contract: the word is packed, tried, and made to hold what was found.
 -- Assumes nothing.
 use borrow.Author.Needs.{needs}
-use Rattle.line.specs.declared.cells.Side.the-variants.{One}
-use Rattle.line.proofs.CellLaws.{word-line}
-use Rattle.line.proofs.RowLaws.{packable, sized}
+use Rattle.packed.specs.declared.side.Side.the-variants.{One}
+use Rattle.packed.proofs.CellLaws.{word-line}
+use Rattle.packed.proofs.RowLaws.{packable, sized}
 use Rattle.line.proofs.EntryLaws.{filled-full}
 use Rattle.line.proofs.entry.bounded_taken.Statement.{statement}
 use Rattle.line.proofs.entry.bounded_taken.Tie as tie

@@ -17,7 +17,7 @@ enum-known-call c = search needs
 decode-taken-requires : tie.Need-decode-taken-requires
 decode-taken-requires c κs =
     let s = c .before .before .before .before .before .before .before in
-    line-taken 3 (s .args .degree) (s .args .cells .now) _ (omega arith)
+    line-taken 2 (s .args .degree) (s .args .cells .now) _
     (sym (c .before .before .before .before .line-test .ensures) ∙ c .before .before .call .given .1)
 
 enum-known-call-2 : tie.Need-enum-known-call-2

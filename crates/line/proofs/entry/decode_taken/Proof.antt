@@ -1,7 +1,7 @@
 -- `line::entry::decode_taken` meets its contract: the line is packed, tried, and made to hold what was found.
 -- Assumes nothing.
 use borrow.Author.Needs.{needs}
-use Rattle.line.proofs.RowLaws.{packable, sized}
+use Rattle.packed.proofs.RowLaws.{packable, sized}
 use Rattle.line.proofs.entry.decode_taken.Statement.{statement}
 use Rattle.line.proofs.entry.decode_taken.Tie as tie
 

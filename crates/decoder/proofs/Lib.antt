@@ -1,0 +1,7 @@
+pub mod PackedLaws
+pub mod HalfLaws
+pub mod RunLaws
+pub mod ReportLaws
+pub mod EntryLaws
+pub mod Theorem
+pub mod SentArrays

@@ -1,0 +1,4 @@
+pub mod Plain
+pub mod Refusals
+pub mod Entries
+pub mod Steps

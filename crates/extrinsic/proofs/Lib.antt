@@ -1,0 +1,9 @@
+pub mod ClauseLaws
+pub mod CountLaws
+pub mod Examples
+pub mod Reaching
+pub mod Settling
+pub mod Starting
+pub mod Masking
+pub mod Walking
+pub mod EntryLaws

@@ -1,0 +1,109 @@
+-- The walk over the cells of a mask, from the base line to all messages and the count.
+-- Assumes nothing.
+use mathlib.Core.Path.{_≡_, refl, sym, ap, _∙_, subst}
+use mathlib.Core.Bool.{Bool, true, false, cond}
+use mathlib.Core.Logic.{_≢_}
+use mathlib.Core.List.{List}
+use Prim.Native.Nat.{ℕ, _+_, _-_, _*_, _/_, _%_, _^_, _≤_, _<_}
+use native.Mathlib.Nat.{lt-of-le-of-lt, zero-div}
+use native.Mathlib.Omega.{arith}
+use native.Mathlib.Decide.{ℕ-discrete}
+use lib.Bits.{bitAnd, and-le-l}
+use lib.Count.{trailingZeros}
+use lib.Dec.{eqb}
+use lib.ListN.{length, set}
+use lib.Seq.{getD-set-same, getD-set-other, ext-getD}
+use borrow.Author.Tests.{ne-eqb}
+use Rattle.laws.specs.Bits.{bitAt}
+use Rattle.laws.specs.Sums.{sumTo}
+use Rattle.laws.proofs.Masks.{lowest, lowest-below, sumMask, mask-turn, mask-all, mask-none}
+use Rattle.field.specs.declared.degree.Degree.{Degree}
+use Rattle.field.specs.Degree.{size}
+use Rattle.extrinsic.specs.declared.clause.Clause.the-variants.{Equal, Channel}
+use Rattle.packed.specs.declared.line.Line.{Line}
+use Rattle.extrinsic.specs.declared.clause.Base.{Base}
+use Rattle.packed.specs.Cells.{IsLine, cell, few}
+use Rattle.line.specs.Bounded.{bounded}
+use Rattle.line.specs.Decoding.{decoded, listTo, message, messages}
+use Rattle.extrinsic.specs.Clauses.{cost, clause, settled, count}
+use Rattle.packed.specs.Packed.{Packs}
+use Rattle.extrinsic.specs.Working.{Based, Masks, start}
+use Rattle.line.proofs.LineLaw.{listTo-is, listTo-cell, messages-line}
+use Rattle.extrinsic.proofs.ClauseLaws.{clause-settles}
+
+-- a message is a cell
+module _ (d : Degree) where
+  message-lt : {ys rs : List ℕ} (f k : ℕ) → k < size d → IsLine (size d) ys → IsLine (size d) rs → message (bounded d) ys rs f k < 3
+  unfolding messages
+  message-lt {ys} {rs} f k h ly lr =
+      rw (← listTo-cell (message (bounded d) ys rs f) (size d) k h, ← ly .long) (messages-line d f ly lr .small k)
+
+-- ---- the walk
+
+module _ (d : Degree) (ys rs : List ℕ) (f : ℕ) where
+  abbrev costs : ℕ → ℕ
+  costs k = cost (clause (bounded d) ys rs f k)
+
+  -- the cells that are not in the mask hold their messages, and the count lacks the costs of those that are
+  pub record Walk (l : Line) (c t : ℕ) : Type 0 where
+    pub small : t < 2 ^ size d
+    pub cells : List ℕ
+    pub packs : Packs (size d) cells l
+    pub done : (k : ℕ) → k < size d → bitAt t k ≡ 0 → cell cells k ≡ message (bounded d) ys rs f k
+    pub sum : c + sumMask t costs (size d) ≡ count (bounded d) ys rs f
+
+  module _ {y r : Line} (p : Packs (size d) ys y) (q : Packs (size d) rs r) where
+    -- a cell outside the mask
+    outside : (k : ℕ) → k < size d → cond (few ys) Equal Channel ≡ clause (bounded d) ys rs f k → (cell (start d ys rs f) k ≡ message (bounded d) ys rs f k) × (costs k ≡ 0)
+    unfolding start settled
+    outside k hk e = rw (clause-settles d ys rs f k (p .cells) (q .cells) hk, ← e) (go (few ys))
+      where
+        go : (t : Bool) → (cell (cond t (decoded (bounded d) ys f) rs) k ≡ settled (bounded d) ys rs f k (cond t Equal Channel)) × (cost (cond t Equal Channel) ≡ 0)
+        go true = (refl, refl)
+        go false = (refl, refl)
+
+    pub walk-start : {b : Base} {m : ℕ} → Based d ys rs f b → Masks d ys rs f m → Walk (b .own) (b .count) m
+    unfolding count
+    walk-start {b} {m} B M =
+        record {
+          small = M .small;
+          cells = start d ys rs f;
+          packs = B .own;
+          done = λ k hk z. outside k hk (M .rest k hk z) .0;
+          sum =
+              let e : sumMask m costs (size d) ≡ sumTo costs (size d) = mask-all m costs (size d) (λ k hk z. outside k hk (M .rest k hk z) .1) in
+              rw (p .cells .long, B .count, e) refl;
+        }
+
+    pub walk-turn : {l z : Line} {c t v e : ℕ} → t ≢ 0 → t < 2 ^ 64 → Walk l c t
+        → (trailingZeros 64 t < size d → (v ≡ message (bounded d) ys rs f (trailingZeros 64 t)) × (e ≡ c + costs (trailingZeros 64 t)))
+        → ((cs : List ℕ) → Packs (size d) cs l → trailingZeros 64 t < size d → v < 3 → Packs (size d) (set cs (trailingZeros 64 t) v) z)
+        → Walk z e (bitAnd t (t - 1))
+    walk-turn {l} {z} {c} {t} {v} {e} g h W found put =
+        let k = trailingZeros 64 t in
+        let hk : k < size d = lowest-below 64 (size d) t g h (W .small) in
+        let s = found hk in
+        let lt : v < 3 = rw (s .0) (message-lt d f k hk (p .cells) (q .cells)) in
+        record {
+          small = lt-of-le-of-lt (and-le-l t (t - 1)) (W .small);
+          cells = set (W .cells) k v;
+          packs = put (W .cells) (W .packs) hk lt;
+          done = λ j hj e. at j hj e (ℕ-discrete j k) hk (s .0);
+          sum = (let e = mask-turn 64 t costs (size d) g h hk in omega (arith, W .sum));
+        }
+      where
+        at : (j : ℕ) → j < size d → bitAt (bitAnd t (t - 1)) j ≡ 0 → Dec (j ≡ trailingZeros 64 t) → trailingZeros 64 t < size d → v ≡ message (bounded d) ys rs f (trailingZeros 64 t)
+            → cell (set (W .cells) (trailingZeros 64 t) v) j ≡ message (bounded d) ys rs f j
+        at j hj e (yes i) hk s =
+            rw i (getD-set-same (W .cells) (trailingZeros 64 t) v 0 (rw (W .packs .cells .long) hk) ∙ s)
+        at j hj e (no i) hk s =
+            getD-set-other (W .cells) (trailingZeros 64 t) j v 0 i
+            ∙ W .done j hj (lowest 64 t g h .1 j ∙ rw (e, ne-eqb j (trailingZeros 64 t) i))
+
+    pub walk-end : {l : Line} {c : ℕ} → Walk l c 0 → Packs (size d) (messages (bounded d) ys rs f) l × (c ≡ count (bounded d) ys rs f)
+    unfolding messages
+    walk-end {l} {c} W =
+        let g : ℕ → ℕ = message (bounded d) ys rs f in
+        let e : W .cells ≡ listTo g (length ys) =
+        rw (p .cells .long) (sym (listTo-is g (size d) (W .cells) (W .packs .cells .long) (λ k h. sym (W .done k h (rw zero-div))))) in
+        (subst (λ (cs : List ℕ). Packs (size d) cs l) e (W .packs), let z = mask-none costs (size d) in omega (arith, W .sum))

@@ -1,0 +1,5 @@
+pub mod Clauses
+pub mod Working
+pub mod Rows
+pub mod Refusals
+pub mod Entries

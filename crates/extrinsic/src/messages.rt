@@ -1,0 +1,273 @@
+// The extrinsic messages of a line, and its count.
+use line::bounded::Tried;
+use line::bounded::counted;
+use packed::side::Side;
+use crate::clause::Base;
+use crate::clause::Clause;
+use crate::clause::Half;
+use crate::clause::clause_at;
+use crate::clause::half_of;
+use crate::clause::seen_at;
+use line::decoding::Sent;
+use line::decoding::choose;
+use line::decoding::decode_packed;
+use line::decoding::or_back;
+use packed::line::Line;
+use packed::line::cell_at;
+use packed::line::count_erasures;
+use packed::line::differing;
+use packed::line::fill;
+use packed::line::known_only_in;
+use packed::line::put;
+use packed::line::word_of;
+use field::degree::Degree;
+use field::tables::FieldTables;
+ghost use mathlib.Core.Path.{_≡_};
+ghost use mathlib.Core.Bool.{true};
+ghost use mathlib.Core.List.{List};
+ghost use Prim.Native.Nat.{ℕ, _+_, _<_, _≤_};
+ghost use Rattle.field.specs.Degree.{size};
+ghost use Rattle.field.specs.Tables.{Tables};
+ghost use Rattle.packed.specs.Cells.{IsLine, cell, erasures, few, filled};
+ghost use Rattle.line.specs.Bounded.{Answer, bounded, orBack};
+ghost use Rattle.line.specs.Decoding.{replaced, message, messages};
+ghost use Rattle.extrinsic.specs.Clauses.{ifNear, instead, cost, clause, settled, count};
+ghost use Rattle.packed.specs.Packed.{Packs};
+ghost use Rattle.line.specs.Working.{Answers};
+ghost use Rattle.extrinsic.specs.Working.{Halves, Based, Masks, triedOf};
+
+// A message, and the decodings counted so far.
+pub struct Settled {
+    pub cell: u64,
+    pub count: u64,
+}
+
+// ---- a cell settled by its clause
+
+// Cell k of an answer to a line.
+fn answer_at(z: Line, t: Tried, k: u32) -> u64
+    requires { ⌜ k < 64 ⌝ }
+    ensures { λ r. ⌜ ((n : ℕ) (zs : List ℕ) (p : Answer) → Packs n zs z → Answers n p t → r ≡ cell (orBack zs p) k) ⌝ }
+{
+    cell_at(or_back(z, t), k)
+}
+
+// What a filling found, where it is in reach at the cell.
+fn near_only(d: Degree, h: Half, c: u64, k: u32) -> Tried
+    requires { ⌜ k < 64 ⌝ }
+    ensures { λ r. ⌜ ((ys rs : List ℕ) (f : ℕ) (s : Side) → IsLine (size d) ys → IsLine (size d) rs → k < size d → c ≡ cell rs k → Halves d ys rs f s h → Answers (size d) (ifNear (bounded d (filled s ys f)) (filled s (replaced ys rs k) f)) r) ⌝ }
+{
+    let v = seen_at(d, h, c, k);
+    let t = h.tried;
+    Tried {
+        found: t.found & v.reach,
+        word: t.word,
+        count: t.count,
+    }
+}
+
+fn tried_of(b: Base, s: Side) -> Tried
+    ensures { λ r. ⌜ r ≡ triedOf b s ⌝ }
+{
+    match s {
+        Side::One => b.one.tried,
+        Side::Two => b.two.tried,
+    }
+}
+
+// The choice with a new answer for one filling.
+fn choose_with(z: Line, s: Side, t: Tried, one: Tried, two: Tried) -> Tried
+    ensures { λ r. ⌜ ((n : ℕ) (zs : List ℕ) (p q1 q2 : Answer) → Packs n zs z → Answers n p t → Answers n q1 one → Answers n q2 two → Answers n (instead zs s p q1 q2) r) ⌝ }
+{
+    match s {
+        Side::One => choose(z, t, two),
+        Side::Two => choose(z, one, t),
+    }
+}
+
+// An open cell: filling s of the replaced line z is decoded once more.
+fn open_cell(
+    d: Degree,
+    z: Line,
+    c: u64,
+    k: u32,
+    filling: u64,
+    s: Side,
+    b: Base,
+    count: u64,
+    tables: &FieldTables,
+) -> Settled
+    requires { ⌜ (k < 64) × (count < 900) × Tables d (now tables) ⌝ }
+    ensures { λ r. ⌜ (r .count ≡ count + 1) × ((ys rs : List ℕ) → IsLine (size d) ys → IsLine (size d) rs → k < size d → Packs (size d) (replaced ys rs k) z → c ≡ cell rs k → Halves d ys rs filling Side.One (b .one) → Halves d ys rs filling Side.Two (b .two) → r .cell ≡ settled (bounded d) ys rs filling k (Clause.Open s)) ⌝ }
+{
+    let words = fill(z, filling);
+    let t = counted(d, word_of(words, s), count, tables);
+    let one = near_only(d, b.one, c, k);
+    let two = near_only(d, b.two, c, k);
+    let best = choose_with(z, s, t, one, two);
+    let message = answer_at(z, best, k);
+    Settled {
+        cell: message,
+        count: t.count,
+    }
+}
+
+fn settle(
+    d: Degree,
+    v: Clause,
+    y: Line,
+    r: Line,
+    k: u32,
+    filling: u64,
+    b: Base,
+    count: u64,
+    tables: &FieldTables,
+) -> Settled
+    requires { ⌜ (k < 64) × (count < 800) × Tables d (now tables) ⌝ }
+    ensures { λ m. ⌜ (m .count ≤ count + 2) × ((ys rs : List ℕ) → Packs (size d) ys y → Packs (size d) rs r → k < size d → Based d ys rs filling b → v ≡ clause (bounded d) ys rs filling k → (m .cell ≡ settled (bounded d) ys rs filling k v) × (m .count ≡ count + cost v)) ⌝ }
+{
+    let c = cell_at(r, k);
+    let z = put(y, k, c);
+    match v {
+        Clause::Equal => Settled {
+            cell: cell_at(b.own, k),
+            count,
+        },
+        Clause::Crowded => Settled { cell: 2, count },
+        Clause::Both => {
+            let best = choose(z, b.one.tried, b.two.tried);
+            Settled {
+                cell: answer_at(z, best, k),
+                count,
+            }
+        }
+        Clause::Neither => Settled { cell: c, count },
+        Clause::Agreeing(s) => Settled {
+            cell: answer_at(z, tried_of(b, s), k),
+            count,
+        },
+        Clause::Unchanged(s) => Settled {
+            cell: answer_at(z, tried_of(b, s), k),
+            count,
+        },
+        Clause::Open(s) => open_cell(d, z, c, k, filling, s, b, count, tables),
+        Clause::Afresh => {
+            let whole = decode_packed(d, z, filling, count, tables);
+            Settled {
+                cell: cell_at(whole.line, k),
+                count: whole.count,
+            }
+        }
+        Clause::Channel => Settled { cell: c, count },
+    }
+}
+
+// The message at cell k.
+fn message_at(
+    d: Degree,
+    y: Line,
+    r: Line,
+    k: u32,
+    filling: u64,
+    b: Base,
+    count: u64,
+    tables: &FieldTables,
+) -> Settled
+    requires { ⌜ (k < 64) × (count < 800) × Tables d (now tables) ⌝ }
+    ensures { λ m. ⌜ (m .count ≤ count + 2) × ((ys rs : List ℕ) → Packs (size d) ys y → Packs (size d) rs r → k < size d → Based d ys rs filling b → (m .cell ≡ message (bounded d) ys rs filling k) × (m .count ≡ count + cost (clause (bounded d) ys rs filling k))) ⌝ }
+{
+    settle(
+        d,
+        clause_at(d, y, r, k, b),
+        y,
+        r,
+        k,
+        filling,
+        b,
+        count,
+        tables,
+    )
+}
+
+// ---- a line
+
+fn no_half() -> Half {
+    Half {
+        before: 0,
+        channel: 0,
+        tried: Tried {
+            found: false,
+            word: 0,
+            count: 0,
+        },
+        far: 0,
+    }
+}
+
+// Both fillings decoded.
+fn few_base(d: Degree, y: Line, r: Line, filling: u64, erased: u32, tables: &FieldTables) -> Base
+    requires { ⌜ Tables d (now tables) ⌝ }
+    ensures { λ b. ⌜ (b .count ≡ 2) × ((ys rs : List ℕ) → Packs (size d) ys y → Packs (size d) rs r → erased ≡ erasures ys → few ys ≡ true → Based d ys rs filling b) ⌝ }
+{
+    let words = fill(y, filling);
+    let channel = fill(r, filling);
+    let one = counted(d, words[0], 0, tables);
+    let two = counted(d, words[1], one.count, tables);
+    Base {
+        erased,
+        own: or_back(y, choose(y, one, two)),
+        one: half_of(d, words[0], channel[0], one),
+        two: half_of(d, words[1], channel[1], two),
+        count: two.count,
+    }
+}
+
+fn base_of(d: Degree, y: Line, r: Line, filling: u64, tables: &FieldTables) -> Base
+    requires { ⌜ Tables d (now tables) ⌝ }
+    ensures { λ b. ⌜ (b .count ≤ 2) × ((ys rs : List ℕ) → Packs (size d) ys y → Packs (size d) rs r → Based d ys rs filling b) ⌝ }
+{
+    let erased = count_erasures(y);
+    if erased < 6 {
+        few_base(d, y, r, filling, erased, tables)
+    } else {
+        Base {
+            erased,
+            own: r,
+            one: no_half(),
+            two: no_half(),
+            count: 0,
+        }
+    }
+}
+
+// The cells that are settled one by one; all others are settled by the base line as a whole.
+fn mask_of(d: Degree, y: Line, r: Line, erased: u32) -> u64
+    ensures { λ m. ⌜ ((ys rs : List ℕ) (f : ℕ) → Packs (size d) ys y → Packs (size d) rs r → erased ≡ erasures ys → Masks d ys rs f m) ⌝ }
+{
+    if erased < 6 {
+        differing(y, r)
+    } else if erased == 6 {
+        known_only_in(y, r)
+    } else {
+        0
+    }
+}
+
+// All messages of incoming line y with channel line r.
+pub fn messages_of(d: Degree, y: Line, r: Line, filling: u64, tables: &FieldTables) -> Sent
+    requires { ⌜ Tables d (now tables) ⌝ }
+    ensures { λ s. ⌜ ((ys rs : List ℕ) → Packs (size d) ys y → Packs (size d) rs r → Packs (size d) (messages (bounded d) ys rs filling) (s .line) × (s .count ≡ count (bounded d) ys rs filling)) ⌝ }
+{
+    let b = base_of(d, y, r, filling, tables);
+    let mut line = b.own;
+    let mut count = b.count;
+    let mut left = mask_of(d, y, r, b.erased);
+    while left != 0 {
+        let k = u64::trailing_zeros(left);
+        let m = message_at(d, y, r, k, filling, b, count, tables);
+        line = put(line, k, m.cell);
+        count = m.count;
+        left = left & (left - 1);
+    }
+    Sent { line, count }
+}

@@ -1,0 +1,10 @@
+pub mod CellLaws
+pub mod Words
+pub mod Packing
+pub mod Gathering
+pub mod Spreading
+pub mod RowLaws
+pub mod ArrayLaws
+pub mod SwapLaws
+pub mod WordLaws
+pub mod CopyLaws

@@ -1,0 +1,11 @@
+-- `line::packed::count_differences` meets its contract: the ones of the xor under the known mask are the differences.
+-- Assumes nothing.
+use Rattle.packed.proofs.Packing.{differences-of}
+use Rattle.packed.proofs.line.count_differences.Statement.{statement}
+use Rattle.packed.proofs.line.count_differences.Tie as tie
+
+returns : tie.Need-returns
+returns c = λ n cs ws p q. differences-of p q
+
+pub count-differences-spec : {M : Type 1} → statement M
+count-differences-spec = tie.close (tie.spec returns)
