@@ -5,5 +5,6 @@ pub mod Reaching
 pub mod Settling
 pub mod Starting
 pub mod Masking
+pub mod OneCodeword
 pub mod Walking
 pub mod EntryLaws

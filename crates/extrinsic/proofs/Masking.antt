@@ -1,4 +1,4 @@
--- Masks of a line: the cells that they leave out are settled by the base line as a whole.
+-- Masks of a line: the messages of the cells that they leave out are the cells of the line that the messages start from.
 -- Assumes nothing.
 use mathlib.Core.Path.{_≡_, refl, sym, ap, ap₂, _∙_}
 use mathlib.Core.Bool.{Bool, true, false, cond, _&&_, not}
@@ -19,12 +19,14 @@ use Rattle.extrinsic.specs.declared.clause.Clause.the-variants.{Equal, C
 use Rattle.packed.specs.declared.line.Line.{Line}
 use Rattle.packed.specs.Cells.{cell, isOne, isErased, erasures, few}
 use Rattle.line.specs.Bounded.{bounded}
-use Rattle.extrinsic.specs.Clauses.{clause}
+use Rattle.line.specs.Decoding.{decoded, message}
+use Rattle.extrinsic.specs.Clauses.{cost, clause, settled}
 use Rattle.packed.specs.Packed.{packBy, Packs}
-use Rattle.extrinsic.specs.Working.{Masks}
+use Rattle.extrinsic.specs.Working.{Masks, start}
 use Rattle.packed.proofs.Words.{packBy-lt, packBy-bit}
 use Rattle.packed.proofs.Packing.{cell-of-line}
 use Rattle.line.proofs.Choosing.{is-few, is-many}
+use Rattle.extrinsic.proofs.ClauseLaws.{clause-settles}
 use Rattle.extrinsic.proofs.Reaching.{equal-clause, many-clause}
 
 -- ---- which cells a mask leaves out
@@ -61,11 +63,21 @@ module _ (d : Degree) (ys rs : List ℕ) (f : ℕ) {y r : Line} (p : Packs (size
       (sym (or-at (bitXor (y .ones) (r .ones)) (bitXor (y .erased) (r .erased)) k ∙ ap₂ bitOr (xor-at (y .ones) (r .ones) k) (xor-at (y .erased) (r .erased) k)) ∙ z) in
       sym (cell-of-line k p) ∙ ap₂ (λ (a b : ℕ). a + 2 * b) (s .0) (s .1) ∙ cell-of-line k q
 
+  -- the message of a cell that is settled by the clause equal, or with 6 or more erasures by the clause channel
+  pub outside : (k : ℕ) → k < size d → cond (few ys) Equal Channel ≡ clause (bounded d) ys rs f k
+      → (cell (start d ys rs f) k ≡ message (bounded d) ys rs f k) × (cost (clause (bounded d) ys rs f k) ≡ 0)
+  unfolding start settled
+  outside k hk e = rw (clause-settles d ys rs f k (p .cells) (q .cells) hk, ← e) (go (few ys))
+    where
+      go : (t : Bool) → (cell (cond t (decoded (bounded d) ys f) rs) k ≡ settled (bounded d) ys rs f k (cond t Equal Channel)) × (cost (cond t Equal Channel) ≡ 0)
+      go true = (refl, refl)
+      go false = (refl, refl)
+
   pub few-mask : e < 6 → Masks d ys rs f (bitOr (bitXor (y .ones) (r .ones)) (bitXor (y .erased) (r .erased)))
   few-mask l =
       record {
         small = or-lt (size d) _ _ (xor-lt (size d) _ _ (ones-lt p) (ones-lt q)) (xor-lt (size d) _ _ (erased-lt p) (erased-lt q));
-        rest = λ k hk z. rw (is-few ys e h l) (equal-clause d ys rs f k (p .cells) (q .cells) hk (is-few ys e h l) (cells-equal k z));
+        rest = λ k hk z. outside k hk (rw (is-few ys e h l) (equal-clause d ys rs f k (p .cells) (q .cells) hk (is-few ys e h l) (cells-equal k z)));
       }
 
   known-there : (k : ℕ) → bitAt (bitXor (y .erased) (bitAnd (y .erased) (r .erased))) k ≡ 0 → (eqb (cell ys k) 2 && not (eqb (cell rs k) 2)) ≡ false
@@ -83,8 +95,8 @@ module _ (d : Degree) (ys rs : List ℕ) (f : ℕ) {y r : Line} (p : Packs (size
   six-mask l s =
       record {
         small = xor-lt (size d) _ _ (erased-lt p) (and-lt (size d) _ _ (erased-lt p) (erased-lt q));
-        rest = λ k hk z. channel-rest l k hk (rw (eq-eqb (erasures ys) 6 (sym h ∙ s)) (known-there k z));
+        rest = λ k hk z. outside k hk (channel-rest l k hk (rw (eq-eqb (erasures ys) 6 (sym h ∙ s)) (known-there k z)));
       }
 
   pub more-mask : 6 ≤ e → e ≢ 6 → Masks d ys rs f 0
-  more-mask l s = record { small = pow-pos (size d); rest = λ k hk z. channel-rest l k hk (rw (ne-eqb (erasures ys) 6 (λ g. s (h ∙ g)))) }
+  more-mask l s = record { small = pow-pos (size d); rest = λ k hk z. outside k hk (channel-rest l k hk (rw (ne-eqb (erasures ys) 6 (λ g. s (h ∙ g))))) }

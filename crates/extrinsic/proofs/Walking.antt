@@ -1,7 +1,7 @@
 -- The walk over the cells of a mask, from the base line to all messages and the count.
 -- Assumes nothing.
 use mathlib.Core.Path.{_≡_, refl, sym, ap, _∙_, subst}
-use mathlib.Core.Bool.{Bool, true, false, cond}
+use mathlib.Core.Bool.{Bool, true, false}
 use mathlib.Core.Logic.{_≢_}
 use mathlib.Core.List.{List}
 use Prim.Native.Nat.{ℕ, _+_, _-_, _*_, _/_, _%_, _^_, _≤_, _<_}
@@ -19,17 +19,15 @@ use Rattle.laws.specs.Sums.{sumTo}
 use Rattle.laws.proofs.Masks.{lowest, lowest-below, sumMask, mask-turn, mask-all, mask-none}
 use Rattle.field.specs.declared.degree.Degree.{Degree}
 use Rattle.field.specs.Degree.{size}
-use Rattle.extrinsic.specs.declared.clause.Clause.the-variants.{Equal, Channel}
 use Rattle.packed.specs.declared.line.Line.{Line}
 use Rattle.extrinsic.specs.declared.clause.Base.{Base}
-use Rattle.packed.specs.Cells.{IsLine, cell, few}
+use Rattle.packed.specs.Cells.{IsLine, cell}
 use Rattle.line.specs.Bounded.{bounded}
-use Rattle.line.specs.Decoding.{decoded, listTo, message, messages}
-use Rattle.extrinsic.specs.Clauses.{cost, clause, settled, count}
+use Rattle.line.specs.Decoding.{listTo, message, messages}
+use Rattle.extrinsic.specs.Clauses.{cost, clause, count}
 use Rattle.packed.specs.Packed.{Packs}
 use Rattle.extrinsic.specs.Working.{Based, Masks, start}
 use Rattle.line.proofs.LineLaw.{listTo-is, listTo-cell, messages-line}
-use Rattle.extrinsic.proofs.ClauseLaws.{clause-settles}
 
 -- a message is a cell
 module _ (d : Degree) where
@@ -53,15 +51,6 @@ module _ (d : Degree) (ys rs : List ℕ) (f : ℕ) where
     pub sum : c + sumMask t costs (size d) ≡ count (bounded d) ys rs f
 
   module _ {y r : Line} (p : Packs (size d) ys y) (q : Packs (size d) rs r) where
-    -- a cell outside the mask
-    outside : (k : ℕ) → k < size d → cond (few ys) Equal Channel ≡ clause (bounded d) ys rs f k → (cell (start d ys rs f) k ≡ message (bounded d) ys rs f k) × (costs k ≡ 0)
-    unfolding start settled
-    outside k hk e = rw (clause-settles d ys rs f k (p .cells) (q .cells) hk, ← e) (go (few ys))
-      where
-        go : (t : Bool) → (cell (cond t (decoded (bounded d) ys f) rs) k ≡ settled (bounded d) ys rs f k (cond t Equal Channel)) × (cost (cond t Equal Channel) ≡ 0)
-        go true = (refl, refl)
-        go false = (refl, refl)
-
     pub walk-start : {b : Base} {m : ℕ} → Based d ys rs f b → Masks d ys rs f m → Walk (b .own) (b .count) m
     unfolding count
     walk-start {b} {m} B M =
@@ -69,9 +58,9 @@ module _ (d : Degree) (ys rs : List ℕ) (f : ℕ) where
           small = M .small;
           cells = start d ys rs f;
           packs = B .own;
-          done = λ k hk z. outside k hk (M .rest k hk z) .0;
+          done = λ k hk z. M .rest k hk z .0;
           sum =
-              let e : sumMask m costs (size d) ≡ sumTo costs (size d) = mask-all m costs (size d) (λ k hk z. outside k hk (M .rest k hk z) .1) in
+              let e : sumMask m costs (size d) ≡ sumTo costs (size d) = mask-all m costs (size d) (λ k hk z. M .rest k hk z .1) in
               rw (p .cells .long, B .count, e) refl;
         }
 

@@ -1,22 +1,23 @@
 -- What the parts of a line's work stand for: fillings, and what they say at a cell. The contracts between the functions of this
 -- crate are put in these words; nothing here has to be believed to read a contract of an entry.
 use mathlib.Core.Path.{_≡_}
-use mathlib.Core.Bool.{Bool, true, false, cond}
+use mathlib.Core.Bool.{Bool, true, false, cond, not, _&&_, _||_}
 use mathlib.Core.List.{List}
-use Prim.Native.Nat.{ℕ, _+_, _*_, _/_, _%_, _^_, _<_}
+use Prim.Native.Nat.{ℕ, _^_, _<_}
+use lib.Dec.{eqb, ltb}
+use Rattle.laws.specs.Bits.{bitAt}
 use Rattle.field.specs.declared.degree.Degree.{Degree}
 use Rattle.field.specs.Degree.{size}
 use Rattle.packed.specs.declared.side.Side.{Side}
 use Rattle.packed.specs.declared.side.Side.the-variants as side
 use Rattle.line.specs.declared.bounded.Tried.{Tried}
-use Rattle.extrinsic.specs.declared.clause.Clause.the-variants.{Equal, Channel}
 use Rattle.extrinsic.specs.declared.clause.Half.{Half}
 use Rattle.extrinsic.specs.declared.clause.Seen.{Seen}
 use Rattle.extrinsic.specs.declared.clause.Base.{Base}
 use Rattle.packed.specs.Cells.{cell, erasures, few, distance, filled}
 use Rattle.line.specs.Bounded.{Found, bounded}
-use Rattle.line.specs.Decoding.{decoded}
-use Rattle.extrinsic.specs.Clauses.{reach, same, answerCell, after, clause}
+use Rattle.line.specs.Decoding.{decoded, message}
+use Rattle.extrinsic.specs.Clauses.{reach, same, answerCell, after, cost, clause}
 use Rattle.packed.specs.Packed.{Packs, PacksWord}
 use Rattle.line.specs.Working.{Answers}
 
@@ -35,7 +36,7 @@ module _ (d : Degree) (ys rs : List ℕ) (f : ℕ) where
     pub value : v .value ≡ answerCell (bounded d) ys rs f k (bounded d (filled s ys f))
     pub bit : v .bit ≡ cell (after (bounded d) ys rs f k s) k
 
-  -- the line that the messages start from: they are its cells wherever the clause is the first or the last
+  -- the line that the messages start from
   unfoldable pub start : List ℕ
   start = cond (few ys) (decoded (bounded d) ys f) rs
 
@@ -47,10 +48,19 @@ module _ (d : Degree) (ys rs : List ℕ) (f : ℕ) where
     pub two : few ys ≡ true → Halves side.Two (b .two)
     pub count : b .count ≡ cond (few ys) 2 0
 
-  -- the cells whose bit is not set in a mask are settled by the clause equal, or with 6 or more erasures by the clause channel
+  -- the messages of the cells whose bit is not set in a mask are the cells of that line, and cost nothing
   pub record Masks (m : ℕ) : Type 0 where
     pub small : m < 2 ^ size d
-    pub rest : (k : ℕ) → k < size d → m / 2 ^ k % 2 ≡ 0 → cond (few ys) Equal Channel ≡ clause (bounded d) ys rs f k
+    pub rest : (k : ℕ) → k < size d → bitAt m k ≡ 0 → (cell start k ≡ message (bounded d) ys rs f k) × (cost (clause (bounded d) ys rs f k) ≡ 0)
+
+-- a codeword that was found stays in reach at cell k: it lies nearer than 2, or the filled bit is unchanged, or the change does
+-- not lead away from it
+abbrev pub stays : Half → ℕ → Bool
+stays h k = ltb (h .far) 2 || (eqb (bitAt (h .before) k) (bitAt (h .channel) k) || not (eqb (bitAt (h .tried .word) k) (bitAt (h .before) k)))
+
+-- both fillings decoded to one codeword
+abbrev pub oneCodeword : Base → Bool
+oneCodeword b = (b .one .tried .found && b .two .tried .found) && eqb (b .one .tried .word) (b .two .tried .word)
 
 -- the answer of a filling
 abbrev pub triedOf : Base → Side → Tried

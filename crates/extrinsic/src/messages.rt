@@ -23,9 +23,11 @@ use packed::line::word_of;
 use field::degree::Degree;
 use field::tables::FieldTables;
 ghost use mathlib.Core.Path.{_≡_};
-ghost use mathlib.Core.Bool.{true};
+ghost use mathlib.Core.Bool.{true, false, _&&_};
 ghost use mathlib.Core.List.{List};
 ghost use Prim.Native.Nat.{ℕ, _+_, _<_, _≤_};
+ghost use lib.Dec.{eqb};
+ghost use Rattle.laws.specs.Bits.{bitAt};
 ghost use Rattle.field.specs.Degree.{size};
 ghost use Rattle.field.specs.Tables.{Tables};
 ghost use Rattle.packed.specs.Cells.{IsLine, cell, erasures, few, filled};
@@ -34,7 +36,7 @@ ghost use Rattle.line.specs.Decoding.{replaced, message, messages};
 ghost use Rattle.extrinsic.specs.Clauses.{ifNear, instead, cost, clause, settled, count};
 ghost use Rattle.packed.specs.Packed.{Packs};
 ghost use Rattle.line.specs.Working.{Answers};
-ghost use Rattle.extrinsic.specs.Working.{Halves, Based, Masks, triedOf};
+ghost use Rattle.extrinsic.specs.Working.{Halves, Based, Masks, stays, oneCodeword, triedOf};
 
 // A message, and the decodings counted so far.
 pub struct Settled {
@@ -240,7 +242,33 @@ fn base_of(d: Degree, y: Line, r: Line, filling: u64, tables: &FieldTables) -> B
     }
 }
 
-// The cells that are settled one by one; all others are settled by the base line as a whole.
+// The cells at which a codeword that was found may leave reach: it lies at 2, and the change at the cell leads away from it.
+fn leaving(h: Half) -> u64
+    ensures { λ r. ⌜ ((k : ℕ) → bitAt r k ≡ 0 → stays h k ≡ true) ⌝ }
+{
+    let t = h.tried;
+    let moved = h.before ^ h.channel;
+    if h.far < Line::RADIUS { 0 } else { moved ^ (moved & (t.word ^ h.before)) }
+}
+
+// The cells at which a replaced line may have 6 erasures.
+fn crowding(r: Line, erased: u32) -> u64
+    ensures { λ m. ⌜ ((n : ℕ) (rs : List ℕ) → Packs n rs r → (k : ℕ) → bitAt m k ≡ 0 → (eqb erased 5 && eqb (cell rs k) 2) ≡ false) ⌝ }
+{
+    if erased == 5 { r.erased } else { 0 }
+}
+
+// Did both fillings decode to one codeword?
+fn one_codeword(b: Base) -> bool
+    ensures { λ r. ⌜ r ≡ oneCodeword b ⌝ }
+{
+    let one = b.one.tried;
+    let two = b.two.tried;
+    (one.found & two.found) & (one.word == two.word)
+}
+
+// The cells that differ from the channel's, or with exactly 6 erasures those known only there: at all others the message is the
+// cell of the base line.
 fn mask_of(d: Degree, y: Line, r: Line, erased: u32) -> u64
     ensures { λ m. ⌜ ((ys rs : List ℕ) (f : ℕ) → Packs (size d) ys y → Packs (size d) rs r → erased ≡ erasures ys → Masks d ys rs f m) ⌝ }
 {
@@ -253,6 +281,19 @@ fn mask_of(d: Degree, y: Line, r: Line, erased: u32) -> u64
     }
 }
 
+// The cells that are settled one by one. Where both fillings decoded to one codeword, it is the message of each cell at which it
+// stays in reach of both, and it is the base line.
+fn left_of(d: Degree, y: Line, r: Line, b: Base) -> u64
+    ensures { λ m. ⌜ ((ys rs : List ℕ) (f : ℕ) → Packs (size d) ys y → Packs (size d) rs r → Based d ys rs f b → Masks d ys rs f m) ⌝ }
+{
+    let all = mask_of(d, y, r, b.erased);
+    if (b.erased < 6) & one_codeword(b) {
+        all & (leaving(b.one) | (leaving(b.two) | crowding(r, b.erased)))
+    } else {
+        all
+    }
+}
+
 // All messages of incoming line y with channel line r.
 pub fn messages_of(d: Degree, y: Line, r: Line, filling: u64, tables: &FieldTables) -> Sent
     requires { ⌜ Tables d (now tables) ⌝ }
@@ -261,7 +302,7 @@ pub fn messages_of(d: Degree, y: Line, r: Line, filling: u64, tables: &FieldTabl
     let b = base_of(d, y, r, filling, tables);
     let mut line = b.own;
     let mut count = b.count;
-    let mut left = mask_of(d, y, r, b.erased);
+    let mut left = left_of(d, y, r, b);
     while left != 0 {
         let k = u64::trailing_zeros(left);
         let m = message_at(d, y, r, k, filling, b, count, tables);

@@ -2,9 +2,11 @@
 -- Assumes nothing.
 use mathlib.Core.Path.{_≡_, refl, sym, ap, ap₂, _∙_}
 use mathlib.Core.Bool.{Bool, true, false, cond, _&&_, _||_, not}
+use mathlib.Core.Logic.{_⊎_, inl, inr}
 use Prim.Native.Nat.{ℕ, zero, suc, _+_, _-_, _*_, _/_, _%_, _^_, _<_, min, max, suc-le-suc}
-use native.Mathlib.Nat.{pow-suc, zero-lt-suc, mul-comm, div-div-eq-div-mul, div-one, mul-assoc, mul-mod-left}
+use native.Mathlib.Nat.{pow-suc, zero-lt-suc, mul-comm, div-div-eq-div-mul, div-one, mul-assoc, mul-mod-left, le-max-left}
 use native.Mathlib.Omega.{arith}
+use lib.Arith.{bin-ind}
 use lib.Bits.{bitAnd, bitOr, bitXor, differ, and-step, or-step, xor-step, and-shr, and-mod, or-shr, or-mod, xor-shr, xor-mod}
 use lib.Count.{ones, ones-step}
 use lib.Dec.{eqb}
@@ -127,3 +129,23 @@ bits-ext (suc n) a b ha hb h =
   where
     next : (i : ℕ) → bitAt a (suc i) ≡ bitAt b (suc i) → bitAt (a / 2) i ≡ bitAt (b / 2) i
     next i e = rw (shift-more, shift-more) at e
+
+-- ---- nothing is set
+
+pub or-first : (a b : ℕ) → bitOr a b ≡ 0 → a ≡ 0
+or-first =
+    bin-ind (λ (a : ℕ). (b : ℕ) → bitOr a b ≡ 0 → a ≡ 0) (λ b e. refl)
+    (λ a more b e.
+    let s = or-step a b in
+    let high = more (b / 2) (omega arith) in
+    let low : a % 2 ≡ 0 = omega (arith, le-max-left (a % 2) (b % 2)) in
+    omega arith)
+
+pub or-second : (a b : ℕ) → bitOr a b ≡ 0 → b ≡ 0
+or-second a b e = ap (λ (x : ℕ). bitOr x b) (sym (or-first a b e)) ∙ e
+
+-- two bits of which not both are set
+pub and-none : {a b : ℕ} → a < 2 → b < 2 → bitAnd a b ≡ 0 → (a ≡ 0) ⊎ (b ≡ 0)
+and-none {a} {b} ha hb =
+    bit-ind (λ (a : ℕ). bitAnd a b ≡ 0 → (a ≡ 0) ⊎ (b ≡ 0)) (λ z. inl refl)
+    (bit-ind (λ (b : ℕ). bitAnd 1 b ≡ 0 → (_≡_ {A = ℕ} 1 0) ⊎ (b ≡ 0)) (λ z. inr refl) (λ z. absurd (omega arith)) hb) ha

@@ -2,14 +2,13 @@
 -- Assumes nothing.
 use mathlib.Core.Path.{_≡_, refl, sym, ap, ap₂, _∙_, subst}
 use mathlib.Core.List.{List, [], _∷_}
-use Prim.Native.Nat.{ℕ, zero, suc, _-_, _*_, _/_, _%_, _≤_, _<_}
-use native.Mathlib.Nat.{le-refl, le-of-suc-le-suc, not-suc-le-zero, le-max-left}
+use Prim.Native.Nat.{ℕ, zero, suc, _-_, _*_, _%_, _≤_, _<_}
+use native.Mathlib.Nat.{le-refl, le-of-suc-le-suc, not-suc-le-zero}
 use native.Mathlib.Omega.{arith}
-use lib.Arith.{bin-ind}
-use lib.Bits.{bitOr, bitXor, or-step}
+use lib.Bits.{bitOr, bitXor}
 use lib.ListN.{length, take}
 use lib.Seq.{ext-getD}
-use Rattle.laws.proofs.Bits.{half-bit, low-bit, bit-one}
+use Rattle.laws.proofs.Bits.{half-bit, low-bit, bit-one, or-first, or-second}
 use Rattle.laws.proofs.Xor.{xor-eq}
 use Rattle.field.specs.declared.degree.Degree.{Degree}
 use Rattle.field.specs.declared.degree.Degree.the-variants.{Four, Six}
@@ -76,18 +75,6 @@ sized {cs} {l} e p = subst (λ (k : ℕ). Packs k cs l) e p
 pub packs-one : {n : ℕ} {cs ds : List ℕ} {l : Line} → Packs n cs l → Packs n ds l → cs ≡ ds
 packs-one {cs} {ds} p q =
     ext-getD 0 cs ds (p .cells .long ∙ sym (q .cells .long)) (λ k h. sym (cell-of-line k p) ∙ cell-of-line k q)
-
-or-first : (a b : ℕ) → bitOr a b ≡ 0 → a ≡ 0
-or-first =
-    bin-ind (λ (a : ℕ). (b : ℕ) → bitOr a b ≡ 0 → a ≡ 0) (λ b e. refl)
-    (λ a more b e.
-    let s = or-step a b in
-    let high = more (b / 2) (omega arith) in
-    let low : a % 2 ≡ 0 = omega (arith, le-max-left (a % 2) (b % 2)) in
-    omega arith)
-
-or-second : (a b : ℕ) → bitOr a b ≡ 0 → b ≡ 0
-or-second a b e = ap (λ (x : ℕ). bitOr x b) (sym (or-first a b e)) ∙ e
 
 -- two lines with no differing cell pack the same list
 pub none-differing : {n : ℕ} {cs ds : List ℕ} {a b : Line} {r : ℕ} → r ≡ bitOr (bitXor (a .ones) (b .ones)) (bitXor (a .erased) (b .erased)) → r ≡ 0

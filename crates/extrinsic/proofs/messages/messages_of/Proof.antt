@@ -25,18 +25,18 @@ abbrev μ-loop : tie.MeasureT-loop
 base-of-requires : tie.Need-base-of-requires Inv-loop μ-loop
 base-of-requires c κs = search needs
 
-mask-of-requires : tie.Need-mask-of-requires Inv-loop μ-loop
-mask-of-requires c κs = tt
+left-of-requires : tie.Need-left-of-requires Inv-loop μ-loop
+left-of-requires c κs = tt
 
 loop-holds : tie.Need-loop-holds Inv-loop μ-loop
 loop-holds c =
     let a = c .before .before .before .args in
     let b = c .before .before .base-of .ensures in (
       search needs,
-      omega (arith, b .0, mask-le (c .mask-of .result) 64),
+      omega (arith, b .0, mask-le (c .left-of .result) 64),
       λ ys rs p q.
           let B = b .1 ys rs p q in
-          walk-start (a .d) ys rs (a .filling) p q B (c .mask-of .ensures ys rs (a .filling) p q (B .erased)),
+          walk-start (a .d) ys rs (a .filling) p q B (c .left-of .ensures ys rs (a .filling) p q B),
     )
 
 message-at-requires : tie.Need-message-at-requires Inv-loop μ-loop
@@ -80,7 +80,7 @@ messages-of-spec =
     Inv-loop
     μ-loop
     base-of-requires
-    mask-of-requires
+    left-of-requires
     loop-holds
     message-at-requires
     put-requires
