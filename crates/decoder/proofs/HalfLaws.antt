@@ -149,19 +149,20 @@ module _ {d : Degree} {m r w s ones erased : List ℕ} {count i at n : ℕ} (k :
       let z : at + n - at ≡ size d = omega arith in
       rw (z, k .place) (half-line k inside)
 
-  pub half-lent : IsLine (size d) (take (at + n - at) (drop at s))
-  half-lent = rw lent (line-cells (size d) (size d) i (k .source) inside)
+  pub half-lent : length (take (at + n - at) (drop at s)) % 8 ≡ 0
+  half-lent = rw (lent, line-cells (size d) (size d) i (k .source) inside .long) (size-eights d)
 
-  pub half-row : {l : Line} {ro re y ones′ erased′ : List ℕ} {v : Sent} → Held (size d) r ro re → (l .ones ≡ getD ro i 0) × (l .erased ≡ getD re i 0)
-      → SentRow d l (getD w i 0) (take (at + n - at) (drop at s)) y v
+  pub half-row : {o l : Line} {ro re y ones′ erased′ : List ℕ} {v : Sent} → Held (size d) r ro re → (o .ones ≡ getD ones i 0) × (o .erased ≡ getD erased i 0)
+      → (l .ones ≡ getD ro i 0) × (l .erased ≡ getD re i 0) → SentRow d o l (getD w i 0) (take (at + n - at) (drop at s)) y v
       → (ones′ ≡ set ones i (v .line .ones)) × (erased′ ≡ set erased i (v .line .erased))
       → HalfAt d m r w (putMid at (at + n - at) s y) ones′ erased′ (count + v .count) (i + 1) (at + n)
-  half-row {l} {ro} {re} {y} {ones′} {erased′} {v} c f q u =
+  half-row {o} {l} {ro} {re} {y} {ones′} {erased′} {v} c t f q u =
       let z : at + n - at ≡ size d = omega arith in
+      let x : Packs (size d) (take (at + n - at) (drop at s)) o = rw lent (rw (half-line k inside) at (held-line i (k .held) inside t)) in
       let p : Packs (size d) (line (size d) r i) l = held-line i c inside f in
-      let a : y ≡ sent d m r w i = rw lent at (q .cells (line (size d) r i) p) in
-      let b : Packs (size d) (sent d m r w i) (v .line) = rw lent at (q .line (line (size d) r i) p) in
-      let g : v .count ≡ sentCount d m r w i = rw lent at (q .count (line (size d) r i) p) in
+      let a : y ≡ sent d m r w i = rw lent at (q .cells (line (size d) r i) x p) in
+      let b : Packs (size d) (sent d m r w i) (v .line) = rw lent at (q .line (line (size d) r i) x p) in
+      let g : v .count ≡ sentCount d m r w i = rw lent at (q .count (line (size d) r i) x p) in
       rw (z, e, a, k .place) (rw (k .place) at (half-next k inside b g u))
 
 -- ---- the columns: no array is at hand but the words

@@ -44,9 +44,10 @@ pub fn row_half(
     let mut at = 0;
     while i < n {
         let end = at + n;
+        let y = line_in(ones, erased, i);
         let r = line_in(rowones, rowerased, i);
         let f = filling[i];
-        let s = send_row(d, &mut cells[at..end], r, f, tables);
+        let s = send_row(d, &mut cells[at..end], y, r, f, tables);
         put_line(ones, erased, i, s.line);
         count += s.count;
         at = end;

@@ -12,9 +12,9 @@ use Rattle.line.specs.Decoding.{messages}
 use Rattle.extrinsic.specs.Clauses.{count}
 use Rattle.packed.specs.Packed.{Packs}
 
--- a row replaced by its messages, which are handed back packed, with the count of the line
-pub record SentRow (d : Degree) (channel : Line) (filling : ℕ) (before after : List ℕ) (s : Sent) : Type 0 where
+-- a row that a packed line holds, replaced by its messages, which are handed back packed, with the count of the line
+pub record SentRow (d : Degree) (old channel : Line) (filling : ℕ) (before after : List ℕ) (s : Sent) : Type 0 where
   pub long : length after ≡ length before
-  pub cells : (rs : List ℕ) → Packs (size d) rs channel → after ≡ messages (bounded d) before rs filling
-  pub line : (rs : List ℕ) → Packs (size d) rs channel → Packs (size d) (messages (bounded d) before rs filling) (s .line)
-  pub count : (rs : List ℕ) → Packs (size d) rs channel → s .count ≡ count (bounded d) before rs filling
+  pub cells : (rs : List ℕ) → Packs (size d) before old → Packs (size d) rs channel → after ≡ messages (bounded d) before rs filling
+  pub line : (rs : List ℕ) → Packs (size d) before old → Packs (size d) rs channel → Packs (size d) (messages (bounded d) before rs filling) (s .line)
+  pub count : (rs : List ℕ) → Packs (size d) before old → Packs (size d) rs channel → s .count ≡ count (bounded d) before rs filling

@@ -26,7 +26,8 @@ room c = half-room (c .before .loop .inv) (c .before .before .size-of .ensures) 
 next : tie.Need-loop-again Inv-loop μ-loop
 next c =
     let far = c .before .before .before .before .before .before in
-    half-row (far .before .before .before .before .before .loop .inv) (far .before .before .before .before .before .before .size-of .ensures) (far .before .before .before .before .loop-test .taken) (far .before .before .before .before .before .before .before .before .before .before .pre .1) (far .before .before .before .line-in .ensures) (far .send-row .ensures) (c .before .put-line .ensures)
+    let loop = far .before .before .before .before .before .before .before .before in
+    half-row (loop .loop .inv) (loop .before .size-of .ensures) (far .before .before .before .before .before .before .before .loop-test .taken) (loop .before .before .before .before .before .pre .1) (far .before .before .before .before .line-in .ensures) (far .before .before .before .line-in2 .ensures) (far .send-row .ensures) (c .before .put-line .ensures)
 
 size-of-requires : tie.Need-size-of-requires Inv-loop μ-loop
 size-of-requires c κs = search needs
@@ -38,7 +39,10 @@ add-end : tie.Need-add-end Inv-loop μ-loop
 add-end c = omega (arith, room c)
 
 line-in-requires : tie.Need-line-in-requires Inv-loop μ-loop
-line-in-requires c κs = index-room (c .before .before .before .before .before .before .args .d) (c .before .before .size-of .ensures) (c .loop-test .taken)
+line-in-requires c κs = index-room (c .before .before .before .before .before .before .before .before .args .d) (c .before .before .before .before .size-of .ensures) (c .before .before .loop-test .taken)
+
+line-in-requires-2 : tie.Need-line-in-requires-2 Inv-loop μ-loop
+line-in-requires-2 c κs = index-room (c .before .before .before .before .before .before .before .before .before .args .d) (c .before .before .before .before .before .size-of .ensures) (c .before .before .before .loop-test .taken)
 
 mul-f : tie.Need-mul-f Inv-loop μ-loop
 mul-f c = omega arith
@@ -53,21 +57,21 @@ part-send-row-start : tie.Need-part-send-row-start Inv-loop μ-loop
 part-send-row-start c = omega arith
 
 part-send-row-end : tie.Need-part-send-row-end Inv-loop μ-loop
-part-send-row-end c = omega (arith, room (c .before .before))
+part-send-row-end c = omega (arith, room (c .before .before .before .before .before))
 
 send-row-requires : tie.Need-send-row-requires Inv-loop μ-loop
 send-row-requires c κs =
-    let far = c .before .before .before .before in
-    (half-lent (far .loop .inv) (far .before .size-of .ensures) (c .before .before .before .loop-test .taken), far .before .before .before .before .before .pre .3)
+    let far = c .before .before .before .before .before .before .before in
+    (half-lent (far .loop .inv) (far .before .size-of .ensures) (c .before .before .before .before .before .before .loop-test .taken), far .before .before .before .before .before .pre .3)
 
 put-line-requires : tie.Need-put-line-requires Inv-loop μ-loop
 put-line-requires c κs =
-    let far = c .before .before .before .before .before .before .before .before in
+    let far = c .before .before .before .before .before .before .before .before .before .before .before in
     index-room (far .before .before .before .before .before .before .args .d) (far .before .before .size-of .ensures) (far .loop-test .taken)
 
 add-count : tie.Need-add-count Inv-loop μ-loop
 add-count c =
-    let far = c .before .before .before .before .before .before .before .before .before .before in
+    let far = c .before .before .before .before .before .before .before .before .before .before .before .before .before in
     omega (arith, next c .small, index-room (far .before .before .before .before .before .before .args .d) (far .before .before .size-of .ensures) (far .loop-test .taken))
 
 add-i : tie.Need-add-i Inv-loop μ-loop
@@ -95,6 +99,7 @@ row-half-spec =
     loop-holds
     add-end
     line-in-requires
+    line-in-requires-2
     mul-f
     shared-slice-read-f
     sub-send-row
