@@ -17,7 +17,8 @@ use Rattle.packed.proofs.CellLaws.{Bits}
 use Rattle.packed.specs.Arrays.{line, lines, transpose}
 use Rattle.array.specs.Encoding.{checkSize, messageSize, encodeLine, messageOf, encodeLines, encodeArray, columnsFirst, extracted, ProductCodeword}
 use Rattle.packed.proofs.ArrayLaws.{Even, each-cell, line-at, length-line, line-small, length-transpose, transpose-at, transpose-cells, transpose-transpose, length-lines, line-lines, lines-are, array-ext}
-use Rattle.array.proofs.Linear.{one, xorTo, to-cong, to-swap, to-map, sum-to, times-adds}
+use Rattle.laws.specs.Sums.{xorTo}
+use Rattle.field.proofs.Linear.{one, to-cong, to-swap, to-map, sum-to, times-adds}
 use Rattle.array.proofs.LineEncoding.{inverse, message-at, length-message, line-codeword, line-holds, line-only, summed}
 
 module _ (d : Degree) where

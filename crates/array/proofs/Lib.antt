@@ -1,4 +1,3 @@
-mod Linear
 pub mod LineEncoding
 pub mod ArrayEncoding
 mod PackedEncoding

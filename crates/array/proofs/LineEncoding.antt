@@ -23,14 +23,14 @@ use Rattle.field.specs.declared.degree.Degree.{Degree}
 use Rattle.field.specs.declared.degree.Degree.the-variants.{Four, Six}
 use Rattle.field.specs.Degree.{bits, size, order}
 use Rattle.field.specs.Field.{double, timesPower, power}
-use Rattle.field.specs.Syndrome.{sumOver, ones, digits, parity}
+use Rattle.field.specs.Syndrome.{sumOver, ones, digits, parity, pack}
 use Rattle.field.proofs.Powers.{power-lt}
 use Rattle.line.specs.Codeword.{Codeword}
 use Rattle.packed.proofs.CellLaws.{Bits, take-bits}
 use Rattle.line.proofs.Distances.{word-parity}
 use Rattle.array.specs.Encoding.{checkSize, messageSize, checkTable, sums, checksFor, checkCells, encodeLine, messageOf}
 use Rattle.field.proofs.Sums.{sum-lt, sum-ones, sum-append, digits-length}
-use Rattle.array.proofs.Linear.{one, sum-step, sum-map, then-adds, digit-adds, sumDigits, digits-adds, digits-bits, digits-at, pack, digits-pack, pack-lt, digits-inverse, sum-beside, sum-both, unit, unit-lt, sum-unit}
+use Rattle.field.proofs.Linear.{one, sum-step, sum-map, then-adds, digit-adds, sumDigits, digits-adds, digits-bits, digits-at, digits-pack, pack-lt, digits-inverse, sum-beside, sum-both, unit, unit-lt, sum-unit}
 
 -- ---- the test of a table
 

@@ -17,11 +17,12 @@ use Rattle.laws.specs.Bits.{bitAt}
 use Rattle.laws.proofs.Bits.{bit-at-lt}
 use Rattle.field.specs.Syndrome.{sumOver, digits}
 use Rattle.packed.specs.Arrays.{line, lines}
-use Rattle.array.specs.Units.{encodedWord, rowWord, xorTo}
+use Rattle.array.specs.Units.{encodedWord, rowWord}
+use Rattle.laws.specs.Sums.{xorTo}
 use Rattle.packed.proofs.ArrayLaws.{Even, line-at, length-line, length-lines, line-room}
 use Rattle.array.proofs.Bounds.{square-le}
 use Rattle.field.proofs.Sums.{cell, sum-more}
-use Rattle.array.proofs.Linear.{to-last}
+use Rattle.field.proofs.Linear.{to-last}
 
 -- ---- a message row, a cell a turn
 

@@ -2,28 +2,19 @@
 -- read its result.
 use mathlib.Core.Path.{_≡_}
 use mathlib.Core.List.{List}
-use Prim.Native.Nat.{ℕ, zero, suc, _*_, _^_, _<_}
-use lib.Bits.{bitXor}
+use Prim.Native.Nat.{ℕ, _*_, _^_, _<_}
 use lib.ListN.{length, getD}
 use Rattle.laws.specs.Bits.{bitAt}
+use Rattle.laws.specs.Sums.{xorTo}
 use Rattle.field.specs.declared.degree.Degree.{Degree}
-use Rattle.field.specs.Syndrome.{sumOver, digits}
+use Rattle.field.specs.Syndrome.{sumOver, digits, pack}
 use Rattle.packed.specs.Arrays.{line}
 use Rattle.array.specs.Encoding.{messageSize, encodeLine}
-
--- the number whose bit i is cell i of a word
-abbrev pub pack : List ℕ → ℕ
-pack w = sumOver (λ i. 2 ^ i) w
 
 -- entry a of a table of units: the encoded line, as a number, of the message whose one 1 is cell a
 pub record Units (d : Degree) (t : List ℕ) : Type 0 where
   pub long : length t ≡ messageSize d
   pub at : (a : ℕ) → a < messageSize d → getD t a 0 ≡ pack (encodeLine d (digits (messageSize d) (2 ^ a)))
-
--- the sum by exclusive or of F 0, F 1, .. F (k - 1)
-unfoldable pub xorTo : ℕ → (ℕ → ℕ) → ℕ
-xorTo zero F = 0
-xorTo (suc k) F = bitXor (F 0) (xorTo k (λ i. F (suc i)))
 
 -- a message row, encoded: the sum of the entries at its ones
 unfoldable pub encodedWord : List ℕ → List ℕ → ℕ

@@ -10,3 +10,4 @@ pub mod Filling
 pub mod Reading
 pub mod Locating
 pub mod Search
+pub mod Linear

@@ -2,7 +2,7 @@
 -- the sum of α^i over cells i below n - 1 that hold 1, the sum of α^(3i) over the same cells, and the parity of all n cells.
 use mathlib.Core.Bool.{true, false}
 use mathlib.Core.List.{List, [], _∷_}
-use Prim.Native.Nat.{ℕ, zero, suc, _+_, _*_, _/_, _%_}
+use Prim.Native.Nat.{ℕ, zero, suc, _+_, _*_, _/_, _%_, _^_}
 use lib.Bits.{bitXor}
 use lib.Dec.{eqb}
 use lib.ListN.{take}
@@ -33,3 +33,7 @@ parity d cells = ones (take (size d) cells) % 2
 unfoldable pub digits : ℕ → ℕ → List ℕ
 digits zero w = []
 digits (suc k) w = w % 2 ∷ digits k (w / 2)
+
+-- the number whose bit i is cell i of a word
+abbrev pub pack : List ℕ → ℕ
+pack w = sumOver (λ i. 2 ^ i) w

@@ -5,7 +5,8 @@ use mathlib.Core.Path.{_≡_, refl}
 use mathlib.Core.Logic.{⊎-elim}
 use native.Mathlib.Omega.{arith}
 use lib.ListN.{length}
-use Rattle.array.specs.Units.{rowWord, xorTo}
+use Rattle.laws.specs.Sums.{xorTo}
+use Rattle.array.specs.Units.{rowWord}
 use Rattle.array.proofs.Loops.{row-one, row-other, row-all}
 use Rattle.array.proofs.encoding.row_word.Statement.{statement}
 use Rattle.array.proofs.encoding.row_word.Tie as tie

@@ -31,10 +31,10 @@ add-end : tie.Need-add-end Inv-loop μ-loop
 add-end c = omega (arith, room c)
 
 line-in-requires : tie.Need-line-in-requires Inv-loop μ-loop
-line-in-requires c κs = index-room (c .before .before .before .before .args .d) (c .before .before .size-of .ensures) (c .loop-test .taken)
+line-in-requires c κs = omega (arith, index-room (c .before .before .before .before .args .d) (c .before .before .size-of .ensures) (c .loop-test .taken))
 
 line-in-requires-2 : tie.Need-line-in-requires-2 Inv-loop μ-loop
-line-in-requires-2 c κs = index-room (c .before .before .before .before .before .args .d) (c .before .before .before .size-of .ensures) (c .before .loop-test .taken)
+line-in-requires-2 c κs = omega (arith, index-room (c .before .before .before .before .before .args .d) (c .before .before .before .size-of .ensures) (c .before .loop-test .taken))
 
 sub-update-row : tie.Need-sub-update-row Inv-loop μ-loop
 sub-update-row c = omega arith

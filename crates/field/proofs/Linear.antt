@@ -15,10 +15,9 @@ use lib.ListN.{length, getD}
 use Rattle.laws.specs.Bits.{bit, bitAt}
 use Rattle.laws.proofs.Bits.{bit-lt, bit-one, shift-more}
 use Rattle.laws.proofs.Xor.{xors, bit-ind, digit-lt, xor-digit, xor-assoc, xor-scale, scale-xor}
-use Rattle.field.specs.Syndrome.{sumOver, digits}
-use Rattle.packed.proofs.CellLaws.{Bits}
-pub use Rattle.array.specs.Units.{pack, xorTo}
+use Rattle.laws.specs.Sums.{xorTo}
+use Rattle.field.specs.Syndrome.{sumOver, digits, pack}
 use Rattle.field.proofs.Sums.{sum-cong, sum-zero, sum-lt, sum-append, digits-length}
 
 -- 1 for a cell that holds 1
 abbrev pub one : ℕ → ℕ
@@ -102,7 +101,7 @@ digits-power f (suc k) (suc a) h =
     let d : 2 ^ suc a / 2 ≡ 2 ^ a = ap (λ (x : ℕ). x / 2) (pow-suc 2 a) ∙ mul-div-cancel (2 ^ a) (zero-lt-suc 1) in
     digits-step f k (2 ^ suc a) ∙ rw (o, d, zero-mul) (digits-power (λ i. f (suc i)) k a (omega arith))
 
-pub digits-bits : (k x : ℕ) → Bits (digits k x)
+pub digits-bits : (k x i : ℕ) → getD (digits k x) i 0 < 2
 unfolding digits
 digits-bits zero x i = omega arith
 digits-bits (suc k) x zero = digit-lt x
@@ -129,7 +128,7 @@ pack-digits (suc k) x h =
     pack-step (x % 2) (digits k (x / 2))
     ∙ rw (one-digit, pack-digits k (x / 2) (div-lt-iff-lt-mul (zero-lt-suc 1) .1 (rw (← pow-suc 2 k) h))) (omega arith)
 
-pub digits-pack : (w : List ℕ) → Bits w → digits (length w) (pack w) ≡ w
+pub digits-pack : (w : List ℕ) → ((i : ℕ) → getD w i 0 < 2) → digits (length w) (pack w) ≡ w
 unfolding digits
 digits-pack [] h = refl
 digits-pack (c ∷ cs) h =
