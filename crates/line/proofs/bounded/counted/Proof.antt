@@ -23,12 +23,12 @@ add-mend c = search needs
 mend-requires : tie.Need-mend-requires
 mend-requires c κs =
     let s = c .before .syndrome-of .result in
-    usable-below (c .before .before .args .d) (s .s1) (s .s3) (eqb (s .parity) 0) (c .wrong-places .result) (c .wrong-places .ensures)
+    search (needs, usable-below (c .before .before .args .d) (s .s1) (s .s3) (eqb (s .parity) 0) (c .wrong-places .result) (c .wrong-places .ensures))
 
 returns : tie.Need-returns
 returns c =
     let s = c .before .before .before in
-    (c .mend .ensures .0, λ ws p. tried-bounded (s .args .d) p (c .before .before .syndrome-of .ensures) (c .before .wrong-places .ensures) (c .mend .ensures .1 ws p))
+    (c .mend .ensures .0, λ ws p. tried-bounded (s .args .d) {t = c .mend .result} p (c .before .before .syndrome-of .ensures) (c .before .wrong-places .ensures) (c .mend .ensures .1 ws p))
 
 pub counted-spec : {M : Type 1} → statement M
 counted-spec =
