@@ -75,12 +75,12 @@ module _ (d : Degree) (t : List ℕ) (tab : Tables d t) (s1 s3 i : ℕ) (h : i <
   second-power : {j : ℕ} → Fits d s1 s3 (Two i j) → P j ≡ bitXor s1 (getD t i 0 % 128)
   second-power {j} f = sym (left ∙ rw (← f .sum1) (simp xors))
 
-  -- no cell
-  none-second : ((j : ℕ) → ¬ (Fits d s1 s3 (Two i j))) → Second d s1 s3 i 64
+  -- no entry of a table
+  none-second : ((j : ℕ) → ¬ (Fits d s1 s3 (Two i j))) → Second d s1 s3 i 65536
   none-second n = record { fits = λ l. absurd (omega arith); none = λ l. n }
 
   -- nothing is left
-  pub second-alone : bitXor s1 (getD t i 0 % 128) ≡ 0 → Second d s1 s3 i 64
+  pub second-alone : bitXor s1 (getD t i 0 % 128) ≡ 0 → Second d s1 s3 i 65536
   second-alone e = none-second (λ j f. power-pos d j (second-power f ∙ e))
 
   -- α^j is left
@@ -110,7 +110,7 @@ module _ (d : Degree) (t : List ℕ) (tab : Tables d t) (s1 s3 i : ℕ) (h : i <
         under a = record { within = (omega (arith, differ), h); sum1 = xor-comm (P j) (P i) ∙ add-up; sum3 = xor-comm (P (3 * j)) (P (3 * i)) ∙ cubes }
 
     -- they do not, and no other can
-    pub second-unfit : bitXor (getD t i 0) (getD t j 0) ≢ s1 + 128 * s3 → Second d s1 s3 i 64
+    pub second-unfit : bitXor (getD t i 0) (getD t j 0) ≢ s1 + 128 * s3 → Second d s1 s3 i 65536
     second-unfit g = none-second no-other
       where
         no-other : (k : ℕ) → ¬ (Fits d s1 s3 (Two i k))
@@ -125,7 +125,7 @@ module _ (d : Degree) (s1 s3 : ℕ) where
   abbrev pub NoneBelow : ℕ → Type 0
   NoneBelow i = (a b : ℕ) → a < i → ¬ (Fits d s1 s3 (Two a b))
 
-  pub none-next : (i r : ℕ) → NoneBelow i → Second d s1 s3 i r → 64 ≤ r → NoneBelow (i + 1)
+  pub none-next : (i r : ℕ) → NoneBelow i → Second d s1 s3 i r → 65536 ≤ r → NoneBelow (i + 1)
   none-next i r n s g a b l = pick (ℕ-discrete a i)
     where
       pick : Dec (a ≡ i) → ¬ (Fits d s1 s3 (Two a b))
@@ -133,7 +133,7 @@ module _ (d : Degree) (s1 s3 : ℕ) where
       pick (no q) = n a b (omega arith)
 
   -- two are found: the other one is above, or it would have been met before
-  pub pair-found : (i r : ℕ) → NoneBelow i → Second d s1 s3 i r → r < 64 → Two i r ≡ located d s1 s3
+  pub pair-found : (i r : ℕ) → NoneBelow i → Second d s1 s3 i r → r < 65536 → Two i r ≡ located d s1 s3
   pair-found i r n s l =
       ⊎-elim (λ f. sym (located-is d s1 s3 (Two i r) f)) (λ f. absurd (n r i (f .within .0) f)) (s .fits l)
 

@@ -23,7 +23,7 @@ pub record Fits (d : Degree) (s1 s3 : ℕ) (p : Positions) : Type 0 where
   pub sum1 : total (λ i. power d i) p ≡ s1
   pub sum3 : total (λ i. power d (3 * i)) p ≡ s3
 
--- r is the other of two positions that fit, one of them i; or r is no cell, and none that fit have i as the lower one
+-- r is the other of two positions that fit, one of them i; or r is no entry of a table, and none that fit have i as the lower one
 pub record Second (d : Degree) (s1 s3 i r : ℕ) : Type 0 where
-  pub fits : r < 64 → Fits d s1 s3 (Two i r) ⊎ Fits d s1 s3 (Two r i)
-  pub none : 64 ≤ r → (j : ℕ) → ¬ (Fits d s1 s3 (Two i j))
+  pub fits : r < 65536 → Fits d s1 s3 (Two i r) ⊎ Fits d s1 s3 (Two r i)
+  pub none : 65536 ≤ r → (j : ℕ) → ¬ (Fits d s1 s3 (Two i j))

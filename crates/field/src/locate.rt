@@ -37,8 +37,9 @@ pub fn locate_single(d: Degree, s1: u16, s3: u16, tables: &FieldTables) -> Posit
     Positions::Unfit
 }
 
-// The other of two positions that fit, one of them i, or 64 where there is none. Its power is what is left of s1; both sums are
-// compared at once, side by side as in a weight. Whether it is above i is not asked: the search would have met it before.
+// The other of two positions that fit, one of them i, or 65536 where there is none. Its power is what is left of s1; both sums
+// are compared at once, side by side as in a weight. Whether it is above i is not asked: the search would have met it before.
+// No entry of the tables can be 65536, so the compiler sees by itself which answer is meant, and no turn tests it again.
 fn second_of(d: Degree, s1: u16, sums: u16, i: usize, tables: &FieldTables) -> usize
     requires { ⌜ (s1 < size d) × (s1 ≢ 0) × (i < order d) × Tables d (now tables) ⌝ }
     ensures { λ r. ⌜ ((s3 : ℕ) → sums ≡ s1 + 128 * s3 → Second d s1 s3 i r) ⌝ }
@@ -46,13 +47,13 @@ fn second_of(d: Degree, s1: u16, sums: u16, i: usize, tables: &FieldTables) -> u
     let w = tables[i];
     let rest = s1 ^ (w % 128);
     if rest == 0 {
-        return 64;
+        return 65536;
     }
     let j = log_of(d, rest, tables);
     if w ^ tables[j] == sums {
         return j;
     }
-    64
+    65536
 }
 
 // Two positions that fit, where no fewer do: a search over the lower one.
@@ -65,7 +66,7 @@ fn locate_pair(d: Degree, s1: u16, s3: u16, tables: &FieldTables) -> Positions
     let mut i = 0;
     while i < order {
         let j = second_of(d, s1, sums, i, tables);
-        if j < 64 {
+        if j < 65536 {
             return Positions::Two(i, j);
         }
         i += 1;
