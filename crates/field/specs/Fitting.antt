@@ -1,8 +1,8 @@
 -- When positions fit two check sums. The search for them and the laws on it are put in these words; what `locate` promises is
 -- `located`, and nothing here has to be believed to read it.
 use mathlib.Core.Path.{_≡_}
-use mathlib.Core.Logic.{_≢_}
-use Prim.Native.Nat.{ℕ, _*_, _<_}
+use mathlib.Core.Logic.{_⊎_}
+use Prim.Native.Nat.{ℕ, _*_, _<_, _≤_}
 use Rattle.field.specs.declared.degree.Degree.{Degree}
 use Rattle.field.specs.declared.locate.Positions.{Positions}
 use Rattle.field.specs.declared.locate.Positions.the-variants.{Zero, One, Two, Unfit}
@@ -23,14 +23,7 @@ pub record Fits (d : Degree) (s1 s3 : ℕ) (p : Positions) : Type 0 where
   pub sum1 : total (λ i. power d i) p ≡ s1
   pub sum3 : total (λ i. power d (3 * i)) p ≡ s3
 
--- the lowest position
-abbrev pub lowest : Positions → ℕ
-lowest Zero = 0
-lowest (One i) = i
-lowest (Two i j) = i
-lowest Unfit = 0
-
--- an answer that fits, or none with the lowest position i does
-pub record FromHere (d : Degree) (s1 s3 i : ℕ) (r : Positions) : Type 0 where
-  pub fits : r ≢ Unfit → Fits d s1 s3 r
-  pub none : r ≡ Unfit → (p : Positions) → lowest p ≡ i → ¬ (Fits d s1 s3 p)
+-- r is the other of two positions that fit, one of them i; or r is no entry of a table, and none that fit have i as the lower one
+pub record Second (d : Degree) (s1 s3 i r : ℕ) : Type 0 where
+  pub fits : r < 65536 → Fits d s1 s3 (Two i r) ⊎ Fits d s1 s3 (Two r i)
+  pub none : 65536 ≤ r → (j : ℕ) → ¬ (Fits d s1 s3 (Two i j))

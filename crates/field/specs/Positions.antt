@@ -40,3 +40,10 @@ located d s1 s3 =
     orElse (fitting d s1 s3 Zero)
     (orElse (firstOf (λ i. fitting d s1 s3 (One i)) (order d))
     (firstOf (λ j. firstOf (λ i. fitting d s1 s3 (Two i j)) j) (order d)))
+
+-- the positions without the answer of two: where the flip of two cells is of no use, they need not be searched
+abbrev pub atMostOne : Positions → Positions
+atMostOne Zero = Zero
+atMostOne (One i) = One i
+atMostOne (Two i j) = Unfit
+atMostOne Unfit = Unfit

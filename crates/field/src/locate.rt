@@ -1,14 +1,14 @@
-// The error positions that fit two check sums, by a search over the lower one.
+// The error positions that fit two check sums: none or one are read off the tables, two are searched.
 use crate::degree::Degree;
 use crate::degree::order_of;
 use crate::element::log_of;
 use crate::tables::FieldTables;
 ghost use mathlib.Core.Path.{_≡_};
 ghost use mathlib.Core.Logic.{_≢_};
-ghost use Prim.Native.Nat.{_<_};
+ghost use Prim.Native.Nat.{ℕ, _+_, _*_, _<_};
 ghost use Rattle.field.specs.Degree.{size, order};
-ghost use Rattle.field.specs.Positions.{located};
-ghost use Rattle.field.specs.Fitting.{FromHere};
+ghost use Rattle.field.specs.Positions.{located, atMostOne};
+ghost use Rattle.field.specs.Fitting.{Second};
 ghost use Rattle.field.specs.Tables.{Tables};
 
 // Cells below n - 1 that are wrong.
@@ -19,33 +19,10 @@ pub enum Positions {
     Unfit,
 }
 
-// The positions that fit, the lowest of them i. A second one is known by the first: its power is what is left of s1.
-fn locate_from(d: Degree, s1: u16, s3: u16, i: usize, tables: &FieldTables) -> Positions
-    requires { ⌜ (s1 < size d) × (s3 < size d) × (s1 ≢ 0) × (i < order d) × Tables d (now tables) ⌝ }
-    ensures { λ r. ⌜ FromHere d s1 s3 i r ⌝ }
-{
-    let w = tables[i];
-    let rest = s1 ^ (w % 128);
-    if rest == 0 {
-        if w / 128 % 128 == s3 {
-            return Positions::One(i);
-        }
-        return Positions::Unfit;
-    }
-    let j = log_of(d, rest, tables);
-    if j <= i {
-        return Positions::Unfit;
-    }
-    if w ^ tables[j] == s1 + 128 * s3 {
-        return Positions::Two(i, j);
-    }
-    Positions::Unfit
-}
-
-// The at most two positions whose powers add up to s1 and whose cubes add up to s3.
-pub fn locate(d: Degree, s1: u16, s3: u16, tables: &FieldTables) -> Positions
-    requires { ⌜ (s1 < size d) × (s3 < size d) × Tables d (now tables) ⌝ }
-    ensures { λ r. ⌜ r ≡ located d s1 s3 ⌝ }
+// At most one position that fits. It needs no search: s1 is its power.
+pub fn locate_single(d: Degree, s1: u16, s3: u16, tables: &FieldTables) -> Positions
+    requires { ⌜ (s1 < size d) × Tables d (now tables) ⌝ }
+    ensures { λ r. ⌜ r ≡ atMostOne (located d s1 s3) ⌝ }
 {
     if s1 == 0 {
         if s3 == 0 {
@@ -53,24 +30,63 @@ pub fn locate(d: Degree, s1: u16, s3: u16, tables: &FieldTables) -> Positions
         }
         return Positions::Unfit;
     }
+    let i = log_of(d, s1, tables);
+    if tables[i] / 128 % 128 == s3 {
+        return Positions::One(i);
+    }
+    Positions::Unfit
+}
+
+// The other of two positions that fit, one of them i, or 65536 where there is none. Its power is what is left of s1; both sums
+// are compared at once, side by side as in a weight. Whether it is above i is not asked: the search would have met it before.
+// No entry of the tables can be 65536, so the compiler sees by itself which answer is meant, and no turn tests it again.
+fn second_of(d: Degree, s1: u16, sums: u16, i: usize, tables: &FieldTables) -> usize
+    requires { ⌜ (s1 < size d) × (s1 ≢ 0) × (i < order d) × Tables d (now tables) ⌝ }
+    ensures { λ r. ⌜ ((s3 : ℕ) → sums ≡ s1 + 128 * s3 → Second d s1 s3 i r) ⌝ }
+{
+    let w = tables[i];
+    let rest = s1 ^ (w % 128);
+    if rest == 0 {
+        return 65536;
+    }
+    let j = log_of(d, rest, tables);
+    if w ^ tables[j] == sums {
+        return j;
+    }
+    65536
+}
+
+// Two positions that fit, where no fewer do: a search over the lower one.
+fn locate_pair(d: Degree, s1: u16, s3: u16, tables: &FieldTables) -> Positions
+    requires { ⌜ (s1 < size d) × (s3 < size d) × (s1 ≢ 0) × (atMostOne (located d s1 s3) ≡ Positions.Unfit) × Tables d (now tables) ⌝ }
+    ensures { λ r. ⌜ r ≡ located d s1 s3 ⌝ }
+{
+    let sums = s1 + 128 * s3;
     let order = order_of(d);
     let mut i = 0;
     while i < order {
-        let found = locate_from(d, s1, s3, i, tables);
-        match found {
-            Positions::Zero => {
-                return found;
-            }
-            Positions::One(_) => {
-                return found;
-            }
-            Positions::Two(_, _) => {
-                return found;
-            }
-            Positions::Unfit => {
-                i += 1;
-            }
+        let j = second_of(d, s1, sums, i, tables);
+        if j < 65536 {
+            return Positions::Two(i, j);
         }
+        i += 1;
     }
     Positions::Unfit
+}
+
+// The at most two positions whose powers add up to s1 and whose cubes add up to s3. No two powers add up to 0.
+pub fn locate(d: Degree, s1: u16, s3: u16, tables: &FieldTables) -> Positions
+    requires { ⌜ (s1 < size d) × (s3 < size d) × Tables d (now tables) ⌝ }
+    ensures { λ r. ⌜ r ≡ located d s1 s3 ⌝ }
+{
+    let single = locate_single(d, s1, s3, tables);
+    if s1 == 0 {
+        return single;
+    }
+    match single {
+        Positions::Zero => single,
+        Positions::One(_) => single,
+        Positions::Two(_, _) => single,
+        Positions::Unfit => locate_pair(d, s1, s3, tables),
+    }
 }

@@ -22,15 +22,15 @@ use Rattle.line.specs.declared.bounded.Tried.{Tried}
 use Rattle.packed.specs.Cells.{flip}
 use Rattle.line.specs.Bounded.{bounded}
 use Rattle.packed.specs.Packed.{PacksWord}
-use Rattle.line.specs.Working.{Answers, failed, found, mended, Below}
+use Rattle.line.specs.Working.{Answers, failed, found, mended, Below, usable}
 use Rattle.line.proofs.Mending.{answer-mends}
 use Rattle.packed.proofs.RowLaws.{word-sums}
 
 pub last-below : (d : Degree) → order d < size d
 last-below d = omega (arith, primitive d .more)
 
--- located positions are cells
-pub located-below : (d : Degree) (a b : ℕ) → Below (size d) (located d a b)
+-- located positions are cells, and so are those that are of use
+located-below : (d : Degree) (a b : ℕ) → Below (size d) (located d a b)
 located-below d a b = go (located d a b) (located-fits d a b)
   where
     go : (p : Positions) → (p ≢ Unfit → Fits d a b p) → Below (size d) p
@@ -38,6 +38,16 @@ located-below d a b = go (located d a b) (located-fits d a b)
     go (One i) f = let w = f (λ e. let z : _≡_ {A = ℕ} 0 1 = cc in omega arith) .within in omega (arith, last-below d)
     go (Two i j) f = let w = f (λ e. let z : _≡_ {A = ℕ} 0 1 = cc in omega arith) .within in (omega (arith, last-below d), omega (arith, last-below d))
     go Unfit f = tt
+
+pub usable-below : (d : Degree) (a b : ℕ) (even : Bool) (p : Positions) → p ≡ usable even (located d a b) → Below (size d) p
+usable-below d a b even p e = subst (Below (size d)) (sym e) (go even (located d a b) (located-below d a b))
+  where
+    go : (even : Bool) (p : Positions) → Below (size d) p → Below (size d) (usable even p)
+    go true p h = h
+    go false Zero h = tt
+    go false (One i) h = h
+    go false (Two i j) h = tt
+    go false Unfit h = tt
 
 -- ---- a word mended, for each kind of positions
 
@@ -57,9 +67,20 @@ module _ (d : Degree) (ws : List ℕ) {t : Tried} where
 
 -- ---- the word's own check sums
 
+-- what is found is the same from the positions that are of use
+usable-mended : (d : Degree) (ws : List ℕ) (even : Bool) (p : Positions) → mended d ws (usable even p) even ≡ mended d ws p even
+usable-mended d ws true p = refl
+usable-mended d ws false Zero = refl
+usable-mended d ws false (One i) = refl
+usable-mended d ws false (Two i j) = refl
+usable-mended d ws false Unfit = refl
+
 pub tried-bounded : (d : Degree) {ws : List ℕ} {w : ℕ} {t : Tried} {s : Syndrome} {p : Positions} → PacksWord (size d) ws w → IsSyndrome d (digits 64 w) s
-    → p ≡ located d (s .s1) (s .s3) → Answers (size d) (mended d ws p (eqb (s .parity) 0)) t → Answers (size d) (bounded d ws) t
+    → p ≡ usable (eqb (s .parity) 0) (located d (s .s1) (s .s3)) → Answers (size d) (mended d ws p (eqb (s .parity) 0)) t → Answers (size d) (bounded d ws) t
 tried-bounded d {ws} {t} {s} {p} q c e a =
     let sums : IsSyndrome d ws s = word-sums q c in
-    let l : p ≡ located d (s1 d ws) (s3 d ws) = e ∙ ap₂ (located d) (sums .s1) (sums .s3) in
-    rw (answer-mends d ws (q .cells) (located d (s1 d ws) (s3 d ws)) (located-fits d (s1 d ws) (s3 d ws)) (located-none d (s1 d ws) (s3 d ws)), ← l, ← sums .parity) a
+    let even = eqb (s .parity) 0 in
+    let l : located d (s .s1) (s .s3) ≡ located d (s1 d ws) (s3 d ws) = ap₂ (located d) (sums .s1) (sums .s3) in
+    let m : mended d ws p even ≡ mended d ws (located d (s1 d ws) (s3 d ws)) even =
+    ap (λ (k : Positions). mended d ws k even) e ∙ usable-mended d ws even (located d (s .s1) (s .s3)) ∙ ap (λ (k : Positions). mended d ws k even) l in
+    rw (answer-mends d ws (q .cells) (located d (s1 d ws) (s3 d ws)) (located-fits d (s1 d ws) (s3 d ws)) (located-none d (s1 d ws) (s3 d ws)), ← sums .parity, ← m) a

@@ -8,6 +8,7 @@ use Rattle.field.specs.declared.degree.Degree.{Degree}
 use Rattle.field.specs.declared.locate.Positions.{Positions}
 use Rattle.field.specs.declared.locate.Positions.the-variants.{Zero, One, Two, Unfit}
 use Rattle.field.specs.Degree.{order}
+use Rattle.field.specs.Positions.{atMostOne}
 use Rattle.line.specs.declared.bounded.Tried.{Tried}
 use Rattle.line.specs.Bounded.{Answer, Found, Failed}
 use Rattle.packed.specs.Cells.{flip}
@@ -23,6 +24,11 @@ mended d w (One i) false = Found (flip i w)
 mended d w (Two i j) true = Found (flip i (flip j w))
 mended d w (Two i j) false = Failed
 mended d w Unfit even = Failed
+
+-- the positions that make a difference to `mended`: two do not, where the ones are odd in number
+abbrev pub usable : (even : Bool) → Positions → Positions
+usable true p = p
+usable false p = atMostOne p
 
 -- the positions are cells below n
 abbrev pub Below : ℕ → Positions → Type 0

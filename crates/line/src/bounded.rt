@@ -1,22 +1,25 @@
 // Bounded-distance decoding of a packed word.
-use packed::line::flip_bit;
 use field::degree::Degree;
 use field::degree::order_of;
 use field::locate::Positions;
 use field::locate::locate;
+use field::locate::locate_single;
+use field::syndrome::Syndrome;
 use field::syndrome::syndrome_of;
 use field::tables::FieldTables;
+use packed::line::flip_bit;
 ghost use mathlib.Core.Path.{_≡_};
 ghost use mathlib.Core.Bool.{cond};
 ghost use mathlib.Core.List.{List};
 ghost use Prim.Native.Nat.{ℕ, _+_, _<_};
 ghost use Rattle.field.specs.Degree.{size};
+ghost use Rattle.field.specs.Positions.{located};
 ghost use Rattle.field.specs.Tables.{Tables};
 ghost use Rattle.packed.specs.Cells.{flip};
 ghost use Rattle.line.specs.Bounded.{bounded};
 ghost use Rattle.packed.specs.Packed.{PacksWord};
 ghost use lib.Dec.{eqb};
-ghost use Rattle.line.specs.Working.{Answers, Below, mended};
+ghost use Rattle.line.specs.Working.{Answers, Below, mended, usable};
 
 // What bounded-distance decoding of a word found (the word itself where it failed), and the decodings counted so far.
 pub struct Tried {
@@ -64,6 +67,19 @@ fn mend(d: Degree, word: u64, wrong: Positions, parity: u16, count: u64) -> Trie
     }
 }
 
+// The wrong cells below n - 1, as far as `mend` has a use for them. Two can be mended only where the ones are even in number;
+// where they are odd, no time is spent on a search for two.
+fn wrong_places(d: Degree, s: Syndrome, tables: &FieldTables) -> Positions
+    requires { ⌜ (s .s1 < size d) × (s .s3 < size d) × Tables d (now tables) ⌝ }
+    ensures { λ r. ⌜ r ≡ usable (eqb (s .parity) 0) (located d (s .s1) (s .s3)) ⌝ }
+{
+    if s.parity == 0 {
+        locate(d, s.s1, s.s3, tables)
+    } else {
+        locate_single(d, s.s1, s.s3, tables)
+    }
+}
+
 // The one way to bounded-distance decoding: it is handed the running count and gives it back one higher, and nothing else
 // adds to a line's count.
 pub fn counted(d: Degree, word: u64, count: u64, tables: &FieldTables) -> Tried
@@ -71,6 +87,6 @@ pub fn counted(d: Degree, word: u64, count: u64, tables: &FieldTables) -> Tried
     ensures { λ r. ⌜ (r .count ≡ count + 1) × ((ws : List ℕ) → PacksWord (size d) ws word → Answers (size d) (bounded d ws) r) ⌝ }
 {
     let s = syndrome_of(d, word, tables);
-    let wrong = locate(d, s.s1, s.s3, tables);
+    let wrong = wrong_places(d, s, tables);
     mend(d, word, wrong, s.parity, count + 1)
 }
