@@ -1,3 +1,4 @@
 pub mod Reports
-pub mod Tests
-pub mod Told
+pub mod ArrayCalls
+pub mod LineCalls
+pub mod SheetCall

@@ -2,6 +2,7 @@
 ghost use mathlib.Core.Path.{_≡_};
 ghost use mathlib.Core.Bool.{cond};
 ghost use lib.ListN.{length};
+ghost use Rattle.laws.specs.Bits.{bit};
 ghost use Rattle.export.specs.Reports.{told};
 
 fn copy_numbers(numbers: &[u64], report: &mut [u64])
@@ -24,10 +25,17 @@ pub fn tell(numbers: &[u64], report: &mut [u64])
     }
 }
 
-// How much of a slice is handed on: all of it, or nothing where the report is not of its length. A slice without cells is
-// refused where lengths are tested, so that a report's length is tested there too.
-pub fn lent(fits: bool, long: usize) -> usize
-    ensures { λ r. ⌜ r ≡ cond fits long 0 ⌝ }
+// How much of a slice is handed on: all of it, or nothing where the report does not fit. The entry below refuses an empty slice
+// where it tests the lengths, and changes nothing: that is the test of the report's length.
+pub fn lent(fit: bool, long: usize) -> usize
+    ensures { λ r. ⌜ r ≡ cond fit long 0 ⌝ }
 {
-    if fits { long } else { 0 }
+    if fit { long } else { 0 }
+}
+
+// Yes is told as 1, no as 0.
+pub fn bit_of(b: bool) -> u64
+    ensures { λ r. ⌜ r ≡ bit b ⌝ }
+{
+    if b { 1 } else { 0 }
 }

@@ -5,7 +5,8 @@ use mathlib.Core.Path.{_∙_, ap}
 use mathlib.Core.List.{List}
 use Prim.Native.Nat.{ℕ}
 use Rattle.export.specs.Reports.{fits, told}
-use Rattle.export.proofs.Handing.{lent-length, lent-part, decode-told}
+use Rattle.export.proofs.Handing.{lent-length, lent-part}
+use Rattle.export.proofs.ArrayTelling.{decode-told}
 use borrow.Author.Needs.{needs}
 use Rattle.export.proofs.arrays.pugdrel_decode.Statement.{statement}
 use Rattle.export.proofs.arrays.pugdrel_decode.Tie as tie
@@ -46,7 +47,7 @@ returns c =
     let p = q .before .before .before in
     let h = p .before .before .before in
     let s = h .before .before .before .before .before .args in
-    decode-told (s .degree) (s .iterations) (s .received .now) (s .filling .now) (s .cells .now) _
+    decode-told (s .degree) (s .iterations) (s .received .now) (s .filling .now) (s .cells .now)
     (lent-part (fits 3 (s .report .now)) (s .received .now) (h .lent .ensures)) (p .decode .ensures) (c .decode-refusal .ensures)
     (t .tell .ensures ∙ ap (λ (n : List ℕ). told n (s .report .now)) (q .decode-numbers .ensures))
 
