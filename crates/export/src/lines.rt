@@ -10,8 +10,10 @@ use line::entry::decode_line;
 use line::entry::line_messages;
 ghost use mathlib.Core.Path.{_≡_};
 ghost use mathlib.Core.List.{[], _∷_};
+ghost use Rattle.laws.specs.Bits.{bit};
 ghost use Rattle.line.specs.Refusals.{number};
 ghost use Rattle.line.specs.Entries.{refusalOf, foundOf, sentRefusal, sentCount};
+ghost use Rattle.export.specs.Reports.{told};
 ghost use Rattle.export.specs.LineCalls.{BoundedTold, DecodeLineTold, MessagesTold};
 
 // ---- an answer in document 01's numbers
@@ -66,6 +68,15 @@ fn sent_count(answer: MessagesAnswer) -> u64
 
 // ---- the calls
 
+// Reports found, and returns the refusal number.
+fn tell_found(answer: LineAnswer, report: &mut [u64]) -> u64
+    ensures { λ r. ⌜ (r ≡ refusalOf answer) × (now (report .exit) ≡ told (bit (foundOf answer) ∷ []) (now (report .entry))) ⌝ }
+{
+    let numbers = [bit_of(is_found(answer))];
+    tell(&numbers, report);
+    line_refusal(answer)
+}
+
 // Bounded-distance decoding of a full word, in place. Reports found.
 #[no_mangle]
 pub extern "C" fn pugdrel_bounded_distance(degree: u64, word: &mut [u8], report: &mut [u64]) -> u64
@@ -73,9 +84,7 @@ pub extern "C" fn pugdrel_bounded_distance(degree: u64, word: &mut [u8], report:
 {
     let end = lent(report.len() == 1, word.len());
     let answer = bounded_distance(degree, &mut word[..end]);
-    let numbers = [bit_of(is_found(answer))];
-    tell(&numbers, report);
-    line_refusal(answer)
+    tell_found(answer, report)
 }
 
 // Line decoding, in place. Reports found.
@@ -90,9 +99,7 @@ pub extern "C" fn pugdrel_decode_line(
 {
     let end = lent(report.len() == 1, cells.len());
     let answer = decode_line(degree, &mut cells[..end], filling);
-    let numbers = [bit_of(is_found(answer))];
-    tell(&numbers, report);
-    line_refusal(answer)
+    tell_found(answer, report)
 }
 
 // The outgoing messages of a line, written to `messages`. Reports the count.

@@ -1,11 +1,8 @@
 -- `lines::pugdrel_bounded_distance` meets its contract: that of the entry below, for the part that is handed on.
 -- Assumes nothing.
-use mathlib.Core.Path.{refl, ap, _∙_}
-use mathlib.Core.List.{[], _∷_}
-use Prim.Native.Nat.{ℕ}
-use Rattle.laws.specs.Bits.{bit}
+use mathlib.Core.Path.{refl}
 use Rattle.line.specs.Entries.{boundedFor}
-use Rattle.export.specs.Reports.{fits, told}
+use Rattle.export.specs.Reports.{fits}
 use Rattle.export.proofs.Handing.{lent-le, lent-length}
 use Rattle.export.proofs.LineTelling.{line-told}
 use borrow.Author.Needs.{needs}
@@ -28,20 +25,8 @@ slice-aggregate-bounded-distance c =
 bounded-distance-requires : tie.Need-bounded-distance-requires
 bounded-distance-requires c κs = search needs
 
-is-found-requires : tie.Need-is-found-requires
-is-found-requires c κs = search needs
-
-bit-of-requires : tie.Need-bit-of-requires
-bit-of-requires c κs = search needs
-
-slice-aggregate-tell : tie.Need-slice-aggregate-tell
-slice-aggregate-tell c = search needs
-
-tell-requires : tie.Need-tell-requires
-tell-requires c κs = search needs
-
-line-refusal-requires : tie.Need-line-refusal-requires
-line-refusal-requires c κs = search needs
+tell-found-requires : tie.Need-tell-found-requires
+tell-found-requires c κs = search needs
 
 same-length : tie.Need-same-length
 same-length c = search needs
@@ -51,13 +36,11 @@ same-length-2 c = search needs
 
 returns : tie.Need-returns
 returns c =
-    let t = c .before .before .before in
-    let b = t .before .before .before in
-    let q = b .before .before .before .before in
+    let t = c .before .before in
+    let q = t .before .before .before .before in
     let h = q .before .before in
     let s = h .before .before .before .args in
-    line-told 2 (s .degree) (s .word .now) boundedFor (λ why p. refl) (h .lent .result) (h .lent .ensures) (q .bounded-distance .ensures) (c .line-refusal .ensures)
-    (t .tell .ensures ∙ ap (λ (x : ℕ). told (x ∷ []) (s .report .now)) (b .bit-of .ensures ∙ ap bit (b .before .is-found .ensures)))
+    line-told 2 (s .degree) (s .word .now) boundedFor (λ why p. refl) (h .lent .result) (h .lent .ensures) (q .bounded-distance .ensures) (t .tell-found .ensures .0) (t .tell-found .ensures .1)
 
 pub pugdrel-bounded-distance-spec : {M : Type 1} → statement M
 pugdrel-bounded-distance-spec =
@@ -67,11 +50,7 @@ pugdrel-bounded-distance-spec =
     slice-relend-prefix-bounded-distance
     slice-aggregate-bounded-distance
     bounded-distance-requires
-    is-found-requires
-    bit-of-requires
-    slice-aggregate-tell
-    tell-requires
-    line-refusal-requires
+    tell-found-requires
     same-length
     same-length-2
     returns)
