@@ -8,7 +8,7 @@ use native.Mathlib.Nat.{mul-zero}
 use native.Mathlib.Omega.{arith}
 use borrow.Author.Tests.{eqb-true}
 use lib.Dec.{eqb}
-use lib.ListN.{length}
+use lib.ListN.{length, getD}
 use Rattle.laws.specs.Bits.{bit}
 use Rattle.field.specs.declared.degree.Degree.{Degree}
 use Rattle.field.specs.declared.degree.Degree.the-variants.{Four, Six}
@@ -18,7 +18,7 @@ use Rattle.field.specs.Degree.{size, named}
 use Rattle.array.specs.declared.refusals.Refusal.{Refusal}
 use Rattle.array.specs.declared.refusals.Refusal.the-variants.{BadDegree, BadIterations, BadLength}
 use Rattle.array.specs.declared.refusals.Call.{Call}
-use Rattle.array.specs.declared.refusals.Call.the-variants.{Refused}
+use Rattle.array.specs.declared.refusals.Call.the-variants.{Taken, Refused}
 use Rattle.array.specs.declared.entry.DecodeAnswer.{DecodeAnswer}
 use Rattle.array.specs.Arrays.{line}
 use Rattle.array.specs.Refusals.{refusalIn, counted, refusal, left, rowRefusal, rowPart, decodeTested as testedBelow, decodeCall as callBelow, rowTests as testsBelow}
@@ -56,9 +56,16 @@ module _ (degree l : ℕ) (r w s : List ℕ) where
         → give (callBelow degree l (cond fit r []) w s) (cond fit r []) ≡ give (decodeCall fit degree l r w s) r
     decode-alike h = alike Refused (λ p. callBelow degree l p w s) (λ b. decodeCall b degree l r w s) give r fit decode-fit decode-unfit h
 
+  taken-fit : (fit : Bool) (d : Degree) → decodeCall fit degree l r w s ≡ Taken d → fit ≡ true
+  taken-fit true d e = refl
+  taken-fit false d e = never decode-unfit
+    where
+      never : Both Refused (callBelow degree l [] w s) (decodeCall false degree l r w s) → false ≡ true
+      never (both why p q) = let z : _≡_ {A = ℕ} 0 1 = cc in absurd (omega arith)
+
   pub decode-told : {part after old new : List ℕ} {a : DecodeAnswer} {number : ℕ} → part ≡ cond (fits 3 old) r [] → DecodeDone degree l part w s after a
       → number ≡ refusalOf a → new ≡ told (decodeNumbers a) old → DecodeTold degree l r w s after old new number
-  decode-told {old} {a} e done n t =
+  decode-told {after} {old} {a} e done n t =
       let done′ = rw e at done in
       let p = cond (fits 3 old) r [] in
       let same : decodeNumbers a ≡ numbersFor (callBelow degree l p w s) l p w = rw (done′ .count, done′ .erasures, done′ .closed) in
@@ -66,6 +73,11 @@ module _ (degree l : ℕ) (r w s : List ℕ) where
         refusal = n ∙ done′ .refusal ∙ decode-alike (fits 3 old) (λ c p. refusalIn c) (λ why. refl);
         cells = done′ .cells ∙ decode-alike (fits 3 old) (λ c p. cellsFor c l p w s) (λ why. refl);
         report = t ∙ ap (λ (x : List ℕ). told x old) (same ∙ decode-alike (fits 3 old) (λ c p. numbersFor c l p w) (λ why. refl));
+        sent = λ d s′ k S near.
+            let fit = taken-fit (fits 3 old) d k in
+            let whole : DecodeDone degree l r w s after a = rw fit at done′ in
+            let h = whole .sent d s′ (decode-fit ∙ rw fit at k) S near in
+            (h .0, ap (λ (x : List ℕ). getD x 2 0) t ∙ rw (fit, h .1));
       }
 
 -- ---- the look-up of a row

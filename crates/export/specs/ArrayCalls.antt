@@ -6,7 +6,7 @@ use mathlib.Core.Bool.{Bool, _&&_}
 use mathlib.Core.List.{List, [], _∷_}
 use Prim.Native.Nat.{ℕ, _*_}
 use lib.Dec.{eqb, ltb}
-use lib.ListN.{length}
+use lib.ListN.{length, getD}
 use Rattle.laws.specs.Bits.{bit}
 use Rattle.field.specs.declared.degree.Degree.{Degree}
 use Rattle.field.specs.declared.degree.Named.{Named}
@@ -14,8 +14,10 @@ use Rattle.field.specs.declared.degree.Named.the-variants.{Known, Unknown}
 use Rattle.field.specs.Degree.{size, named}
 use Rattle.array.specs.declared.refusals.Refusal.the-variants.{BadDegree}
 use Rattle.array.specs.declared.refusals.Call.{Call}
-use Rattle.array.specs.declared.refusals.Call.the-variants.{Refused}
+use Rattle.array.specs.declared.refusals.Call.the-variants.{Taken, Refused}
 use Rattle.array.specs.declared.entry.DecodeAnswer.{DecodeAnswer}
+use Rattle.array.specs.Encoding.{Sent}
+use Rattle.array.specs.Plain.{RowCondition}
 use Rattle.array.specs.Refusals.{refusalIn, counted, fitting, atMost, tested, test, refusal, left}
 use Rattle.array.specs.Entries.{countOf, erasuresOf, closedOf, cellsFor, countFor, erasuresFor, closedFor}
 use Rattle.export.specs.Reports.{fits, told}
@@ -42,6 +44,8 @@ pub record DecodeTold (degree l : ℕ) (r w before after old new : List ℕ) (nu
   pub refusal : number ≡ refusalIn (decodeCall (fits 3 old) degree l r w before)
   pub cells : after ≡ cellsFor (decodeCall (fits 3 old) degree l r w before) l r w before
   pub report : new ≡ told (numbersFor (decodeCall (fits 3 old) degree l r w before) l r w) old
+  -- for every sent array near which each received row is, the cells left are its cells, and closed is told as 1
+  pub sent : (d : Degree) (s : List ℕ) → decodeCall (fits 3 old) degree l r w before ≡ Taken d → Sent d s → RowCondition d r s → (after ≡ s) × (getD new 2 0 ≡ 1)
 
 -- ---- the look-up of a row
 
