@@ -2,8 +2,9 @@
  *
  * An array of n by n bits, each row and column of which is a codeword of a t = 2 extended BCH code, arrives with some bits wrong
  * and some marked unsure. pugdrel_decode mends it. The other functions encode a message, take it out again, and work on one line.
- * The library is written in Rattle: every function below is proved to return, to touch no memory but what it is lent, and to
- * give exactly what its contract says, for every input. The contracts are in crates/export/specs.
+ * The library is written in Rattle: the source of every function below is proved to return, to touch no memory but what it is
+ * lent, and to give exactly what its contract says, for every input. The contracts are in crates/export/specs. Not proved are the
+ * compiler's back end and this header, which repeats the types of the source by hand; examples/c checks every call.
  *
  * Build and link, from the root of the repository, on x86-64 Linux:
  *
@@ -16,7 +17,8 @@
  * Cells. 0, 1, or 2 for unsure. A message to encode and a word for bounded-distance decoding hold only 0 and 1.
  *
  * Filling words. The decoder tries each line twice, with the unsure cells filled by given bits and by their opposites. Bit i of
- * a filling word is for cell i; bits from n up are not read. Zeros are a valid choice; random words give the better decoder.
+ * a filling word is for cell i; bits from n up are not read. Any words are taken: zeros, or drawn at random as in the published
+ * algorithm.
  *
  * Refusals. Each function returns 0, or the number of the first test that fails, in this order. It never aborts. A refused call
  * changes nothing that it was lent, but for the report.
@@ -27,9 +29,9 @@
  *
  * Memory. The caller owns everything. Nothing is allocated, nothing is kept after the return. Slices must not overlap, and
  * uint64_t slices are aligned as uint64_t. No pointer may be null, not even with length 0; nothing is read or written through
- * it then. The machine code has no static data that is written, so that calls from several threads need no lock as long as
- * they are lent different memory. The stack need is below 16 KiB, and below 32 KiB for pugdrel_sheet. Of the C library memcpy and
- * memset are used. */
+ * it then. The library has no data of its own that is written, so that calls from several threads need no lock as long as what
+ * they write is lent to one alone. The stack need, as measured, is 13 KiB for pugdrel_decode, 26 KiB for pugdrel_sheet and 9 KiB
+ * for a line. Of the C library memcpy and memset are used. */
 #ifndef PUGDREL_H
 #define PUGDREL_H
 
