@@ -149,7 +149,8 @@ static void word_gives(const char *word, uint64_t found, const char *after)
     uint8_t line[PUGDREL_N4];
     uint64_t report[1] = {7};
     line_of(word, line);
-    check(pugdrel_bounded_distance(4, line, sizeof line, report, 1) == PUGDREL_OK && report[0] == found && is_line(line, after), word);
+    check(pugdrel_bounded_distance(4, line, sizeof line, report, 1) == PUGDREL_OK, word);
+    check(report[0] == found && is_line(line, after), word);
 }
 
 static void line_gives(const char *text, uint64_t word, uint64_t found, const char *after)
@@ -157,7 +158,8 @@ static void line_gives(const char *text, uint64_t word, uint64_t found, const ch
     uint8_t line[PUGDREL_N4];
     uint64_t report[1] = {7};
     line_of(text, line);
-    check(pugdrel_decode_line(4, line, sizeof line, word, report, 1) == PUGDREL_OK && report[0] == found && is_line(line, after), text);
+    check(pugdrel_decode_line(4, line, sizeof line, word, report, 1) == PUGDREL_OK, text);
+    check(report[0] == found && is_line(line, after), text);
 }
 
 static void messages_give(const char *in, const char *channel, const char *after, uint64_t count)
@@ -166,13 +168,14 @@ static void messages_give(const char *in, const char *channel, const char *after
     uint64_t report[1] = {7};
     line_of(in, incoming);
     line_of(channel, other);
-    check(pugdrel_messages(4, incoming, sizeof incoming, other, sizeof other, 0, messages, sizeof messages, report, 1) == PUGDREL_OK
-              && report[0] == count && is_line(messages, after), in);
+    check(pugdrel_messages(4, incoming, sizeof incoming, other, sizeof other, 0, messages, sizeof messages, report, 1)
+              == PUGDREL_OK, in);
+    check(report[0] == count && is_line(messages, after), in);
 }
 
 static void lines(void)
 {
-    uint8_t word[PUGDREL_N4];
+    uint8_t word[PUGDREL_N4], channel[PUGDREL_N4];
     uint64_t report[2] = {7, 7};
     word_gives("1000100000000000", 1, ZERO);
     word_gives("1000101000000000", 0, "1000101000000000");
@@ -187,9 +190,11 @@ static void lines(void)
     check(pugdrel_bounded_distance(4, word, sizeof word, report, 2) == PUGDREL_BAD_LENGTH && report[0] == 7, "a report of 2");
     check(is_line(word, "1000100000000000"), "a refused word stays");
     word[3] = 2;
-    check(pugdrel_bounded_distance(4, word, sizeof word, report, 1) == PUGDREL_BAD_CELL && report[0] == 0, "an unsure cell in a word");
+    check(pugdrel_bounded_distance(4, word, sizeof word, report, 1) == PUGDREL_BAD_CELL, "an unsure cell in a word");
+    check(report[0] == 0, "is told as not found");
     check(pugdrel_decode_line(6, word, sizeof word, 0, report, 1) == PUGDREL_BAD_LENGTH, "a line of another degree");
-    check(pugdrel_messages(7, word, 16, word, 16, 0, cells, 16, report, 1) == PUGDREL_BAD_DEGREE, "degree 7");
+    line_of(ZERO, channel);
+    check(pugdrel_messages(7, word, sizeof word, channel, sizeof channel, 0, cells, 16, report, 1) == PUGDREL_BAD_DEGREE, "degree 7");
 }
 
 /* ---- The text form. */
@@ -202,7 +207,8 @@ static void sheet(void)
     int i;
     for (i = 0; i < 15; i++) strcat(input, ZERO "\n");
     for (i = 0; i < 16; i++) strcat(expected, ZERO "\n");
-    check(pugdrel_sheet((const uint8_t *)input, strlen(input), output, sizeof output, report, 1) == PUGDREL_OK, "a text is taken");
+    check(pugdrel_sheet((const uint8_t *)input, strlen(input), output, sizeof output, report, 1) == PUGDREL_OK,
+          "a text is taken");
     check(report[0] == strlen(expected) && memcmp(output, expected, strlen(expected)) == 0, "and decoded");
     check(pugdrel_sheet((const uint8_t *)"5\n", 2, output, sizeof output, report, 1) == PUGDREL_OK, "a text of degree 5 too");
     check(report[0] == 8 && memcmp(output, "1 0 0 0\n", 8) == 0, "whose refusal is in the text");
