@@ -68,7 +68,7 @@ fn lines_text(d: Degree, text: &[u8], output: &mut [u8]) -> usize
     taken_text(d, text, output)
 }
 
-fn text_into(input: &[u8], output: &mut [u8]) -> usize
+pub fn text_into(input: &[u8], output: &mut [u8]) -> usize
     requires { ⌜ 4244 ≤ length (now output) ⌝ }
     ensures { λ r. ⌜ Wrote (now (output .entry)) 0 (printed (now (input .entry))) (now (output .exit)) r ⌝ }
 {

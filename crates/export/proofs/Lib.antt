@@ -1,0 +1,5 @@
+mod Reporting
+mod Handing
+mod ArrayTelling
+mod LineTelling
+mod SheetTelling

@@ -1,0 +1,4 @@
+pub mod Reports
+pub mod ArrayCalls
+pub mod LineCalls
+pub mod SheetCall

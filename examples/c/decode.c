@@ -1,0 +1,229 @@
+/* Sends messages through a bad channel and back, and calls every function of the library once with a result that is known.
+ * Build and run, from the root of the repository, after `rt staticlib export`:
+ *
+ *     cc -Iinclude examples/c/decode.c target/staticlib/libexport.a -o target/decode && target/decode
+ *
+ * The exit status is 0 if everything is as it should be. */
+#include "pugdrel.h"
+
+#include <stdio.h>
+#include <string.h>
+
+static int checks, failures;
+
+static void check(int holds, const char *what)
+{
+    checks++;
+    if (!holds) {
+        failures++;
+        fprintf(stderr, "does not hold: %s\n", what);
+    }
+}
+
+/* A small generator of numbers, the same in every run. */
+static uint64_t state = 1;
+
+static uint64_t draw(void)
+{
+    state = state * 6364136223846793005u + 1442695040888963407u;
+    return state >> 33;
+}
+
+/* ---- A message, sent and received. */
+
+#define N PUGDREL_N6
+#define K PUGDREL_K6
+#define ITERATIONS 4
+#define WORDS PUGDREL_FILLING_WORDS(ITERATIONS, N)
+
+static uint8_t message[K * K], sent[N * N], received[N * N], cells[N * N], taken_out[K * K];
+static uint64_t filling[WORDS];
+
+/* One wrong cell and three unsure ones in every row: 2 * 1 + 3 is below 6, so that decoding must succeed. */
+static size_t damage(size_t n)
+{
+    size_t i, j;
+    for (i = 0; i < n; i++) {
+        size_t at = draw() % n;
+        received[i * n + at] ^= 1;
+        for (j = 1; j <= 3; j++) received[i * n + (at + j) % n] = 2;
+    }
+    return 4 * n;
+}
+
+static void round_trip(uint64_t degree, size_t n, size_t k)
+{
+    uint64_t report[PUGDREL_DECODE_REPORT];
+    size_t i, damaged;
+    for (i = 0; i < k * k; i++) message[i] = (uint8_t)(draw() % 2);
+    for (i = 0; i < WORDS; i++) filling[i] = draw() << 33 ^ draw();
+    check(pugdrel_encode(degree, message, k * k, sent, n * n) == PUGDREL_OK, "a message is encoded");
+    memcpy(received, sent, n * n);
+    damaged = damage(n);
+    check(pugdrel_decode(degree, ITERATIONS, received, n * n, filling, PUGDREL_FILLING_WORDS(ITERATIONS, n), cells, n * n, report,
+                         PUGDREL_DECODE_REPORT) == PUGDREL_OK, "an array is decoded");
+    check(memcmp(cells, sent, n * n) == 0, "the cells are those that were sent");
+    check(report[PUGDREL_UNSURE] == 0 && report[PUGDREL_CLOSED] == 1, "no cell is unsure, and the array is closed");
+    check(pugdrel_extract(degree, cells, n * n, taken_out, k * k) == PUGDREL_OK, "the message is taken out");
+    check(memcmp(taken_out, message, k * k) == 0, "it is the message that was sent");
+    printf("degree %d: %d of %d cells wrong or unsure, %d decodings counted, the message of %d bits came through\n", (int)degree,
+           (int)damaged, (int)(n * n), (int)report[PUGDREL_COUNT], (int)(k * k));
+}
+
+/* ---- Refusals: the first test that fails, zeros in the report, and nothing else changed. */
+
+/* A call of decode at degree 4 with one thing wrong; it is refused as `number`. */
+static void refused(uint64_t number, uint64_t degree, uint64_t iterations, size_t received_len, size_t filling_len,
+                    size_t cells_len, size_t report_len, const char *what)
+{
+    uint64_t report[4] = {7, 7, 7, 7};
+    uint64_t told = report_len == PUGDREL_DECODE_REPORT ? 0 : 7; /* a report of another length is not written */
+    size_t i;
+    memset(cells, 9, sizeof cells);
+    check(pugdrel_decode(degree, iterations, received, received_len, filling, filling_len, cells, cells_len, report, report_len)
+              == number, what);
+    for (i = 0; i < 3; i++) check(report[i] == told, what);
+    check(report[3] == 7, what);
+    for (i = 0; i < sizeof cells; i++)
+        if (cells[i] != 9) break;
+    check(i == sizeof cells, what);
+}
+
+static void refusals(void)
+{
+    const size_t array = PUGDREL_N4 * PUGDREL_N4, words = PUGDREL_FILLING_WORDS(1, PUGDREL_N4);
+    memset(received, 0, sizeof received);
+    refused(PUGDREL_BAD_DEGREE, 5, 0, 1, 1, 1, 3, "degree 5, and all else wrong");
+    refused(PUGDREL_BAD_DEGREE, 5, 1, array, words, array, 2, "degree 5, and a report of 2");
+    refused(PUGDREL_BAD_ITERATIONS, 4, 0, array, words, array, 3, "no iterations");
+    refused(PUGDREL_BAD_ITERATIONS, 4, PUGDREL_MAX_ITERATIONS + 1, array, words, array, 4, "21 iterations, and a report of 4");
+    refused(PUGDREL_BAD_LENGTH, 4, 1, array - 1, words, array, 3, "a received cell too few");
+    refused(PUGDREL_BAD_LENGTH, 4, 1, array, words + 1, array, 3, "a filling word too many");
+    refused(PUGDREL_BAD_LENGTH, 4, 1, array, words, array + 1, 3, "a cell too many");
+    refused(PUGDREL_BAD_LENGTH, 4, 1, array, words, array, 0, "no report");
+    received[17] = 3;
+    refused(PUGDREL_BAD_CELL, 4, 1, array, words, array, 3, "a cell 3");
+    refused(PUGDREL_BAD_LENGTH, 4, 1, array, words, array, 4, "a cell 3, and a report of 4");
+    received[17] = 0;
+    message[0] = 2;
+    check(pugdrel_encode(4, message, PUGDREL_K4 * PUGDREL_K4, cells, array) == PUGDREL_BAD_CELL, "an unsure cell in a message");
+    check(pugdrel_encode(4, message, PUGDREL_K4, cells, array) == PUGDREL_BAD_LENGTH, "a message of one row");
+    check(pugdrel_encode(3, message, PUGDREL_K4, cells, array) == PUGDREL_BAD_DEGREE, "degree 3");
+    check(pugdrel_extract(4, received, array, taken_out, 50) == PUGDREL_BAD_LENGTH, "a message of 50 cells");
+}
+
+/* ---- Rows. */
+
+static void rows(void)
+{
+    uint64_t report[PUGDREL_ROW_REPORT] = {7, 7};
+    memset(received, 0, sizeof received);
+    check(pugdrel_row(6, received, N * N, 5, report, 2) == PUGDREL_OK, "row 5");
+    check(report[PUGDREL_ROW_START] == 5 * N && report[PUGDREL_ROW_LENGTH] == N, "its place");
+    check(pugdrel_row(6, received, N * N, 5, report, 1) == PUGDREL_BAD_LENGTH, "a report of 1");
+    check(report[PUGDREL_ROW_START] == 5 * N && report[PUGDREL_ROW_LENGTH] == N, "is not written");
+    check(pugdrel_row(6, received, N * N, N, report, 2) == PUGDREL_BAD_LENGTH, "row 64 of 64");
+    check(report[PUGDREL_ROW_START] == 0 && report[PUGDREL_ROW_LENGTH] == 0, "is empty");
+}
+
+/* ---- Lines of degree 4: cell i is character i; ? is unsure. Filling words are zero but where they are given. */
+
+#define ZERO "0000000000000000"
+#define G "1000101110000001" /* a codeword */
+
+static void line_of(const char *text, uint8_t *line)
+{
+    size_t i;
+    for (i = 0; i < PUGDREL_N4; i++) line[i] = text[i] == '?' ? 2 : (uint8_t)(text[i] - '0');
+}
+
+static int is_line(const uint8_t *line, const char *text)
+{
+    uint8_t other[PUGDREL_N4];
+    line_of(text, other);
+    return memcmp(line, other, sizeof other) == 0;
+}
+
+static void word_gives(const char *word, uint64_t found, const char *after)
+{
+    uint8_t line[PUGDREL_N4];
+    uint64_t report[1] = {7};
+    line_of(word, line);
+    check(pugdrel_bounded_distance(4, line, sizeof line, report, 1) == PUGDREL_OK, word);
+    check(report[0] == found && is_line(line, after), word);
+}
+
+static void line_gives(const char *text, uint64_t word, uint64_t found, const char *after)
+{
+    uint8_t line[PUGDREL_N4];
+    uint64_t report[1] = {7};
+    line_of(text, line);
+    check(pugdrel_decode_line(4, line, sizeof line, word, report, 1) == PUGDREL_OK, text);
+    check(report[0] == found && is_line(line, after), text);
+}
+
+static void messages_give(const char *in, const char *channel, const char *after, uint64_t count)
+{
+    uint8_t incoming[PUGDREL_N4], other[PUGDREL_N4], messages[PUGDREL_N4] = {9};
+    uint64_t report[1] = {7};
+    line_of(in, incoming);
+    line_of(channel, other);
+    check(pugdrel_messages(4, incoming, sizeof incoming, other, sizeof other, 0, messages, sizeof messages, report, 1)
+              == PUGDREL_OK, in);
+    check(report[0] == count && is_line(messages, after), in);
+}
+
+static void lines(void)
+{
+    uint8_t word[PUGDREL_N4], channel[PUGDREL_N4];
+    uint64_t report[2] = {7, 7};
+    word_gives("1000100000000000", 1, ZERO);
+    word_gives("1000101000000000", 0, "1000101000000000");
+    word_gives(G, 1, G);
+    line_gives("?000?0???0000000", 0, 1, ZERO);
+    line_gives("?000?0???0000001", 0, 1, G);
+    line_gives("100010??00000000", 0xc0, 1, G);
+    line_gives("?000?0???000000?", 0, 0, "?000?0???000000?");
+    messages_give("1000100000000000", "1000101000000000", "0000001000000000", 2);
+    messages_give("1000101000000000", "100010?000000000", "1000100000000000", 3);
+    line_of("1000100000000000", word);
+    check(pugdrel_bounded_distance(4, word, sizeof word, report, 2) == PUGDREL_BAD_LENGTH && report[0] == 7, "a report of 2");
+    check(is_line(word, "1000100000000000"), "a refused word stays");
+    word[3] = 2;
+    check(pugdrel_bounded_distance(4, word, sizeof word, report, 1) == PUGDREL_BAD_CELL, "an unsure cell in a word");
+    check(report[0] == 0, "is told as not found");
+    check(pugdrel_decode_line(6, word, sizeof word, 0, report, 1) == PUGDREL_BAD_LENGTH, "a line of another degree");
+    line_of(ZERO, channel);
+    check(pugdrel_messages(7, word, sizeof word, channel, sizeof channel, 0, cells, 16, report, 1) == PUGDREL_BAD_DEGREE, "degree 7");
+}
+
+/* ---- The text form. */
+
+static void sheet(void)
+{
+    static char input[2 + 16 * 17 + 1] = "4\n1000100000000000\n", expected[9 + 16 * 17 + 1] = "0 64 0 1\n";
+    static uint8_t output[PUGDREL_SHEET_OUTPUT];
+    uint64_t report[1] = {7};
+    int i;
+    for (i = 0; i < 15; i++) strcat(input, ZERO "\n");
+    for (i = 0; i < 16; i++) strcat(expected, ZERO "\n");
+    check(pugdrel_sheet((const uint8_t *)input, strlen(input), output, sizeof output, report, 1) == PUGDREL_OK,
+          "a text is taken");
+    check(report[0] == strlen(expected) && memcmp(output, expected, strlen(expected)) == 0, "and decoded");
+    check(pugdrel_sheet((const uint8_t *)"5\n", 2, output, sizeof output, report, 1) == PUGDREL_OK, "a text of degree 5 too");
+    check(report[0] == 8 && memcmp(output, "1 0 0 0\n", 8) == 0, "whose refusal is in the text");
+    check(pugdrel_sheet((const uint8_t *)"5\n", 2, output, 100, report, 1) == PUGDREL_BAD_LENGTH, "an output of 100 bytes");
+    check(report[0] == 0, "to which nothing is written");
+}
+
+int main(void)
+{
+    round_trip(4, PUGDREL_N4, PUGDREL_K4);
+    round_trip(6, PUGDREL_N6, PUGDREL_K6);
+    refusals();
+    rows();
+    lines();
+    sheet();
+    printf("%d checks, %d failed\n", checks, failures);
+    return failures != 0;
+}

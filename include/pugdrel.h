@@ -1,0 +1,134 @@
+/* pugdrel.h: a proved iterative decoder for product codes.
+ *
+ * An array of n by n bits, each row and column of which is a codeword of a t = 2 extended BCH code, arrives with some bits wrong
+ * and some marked unsure. pugdrel_decode mends it. The other functions encode a message, take it out again, and work on one line.
+ * The library is written in Rattle: the source of every function below is proved to return, to touch no memory but what it is
+ * lent, and to give exactly what its contract says, for every input. The contracts are in crates/export/specs. Not proved are the
+ * compiler's back end and this header, which repeats the types of the source by hand; examples/c checks every call.
+ *
+ * Build and link, from the root of the repository, on x86-64 Linux:
+ *
+ *     rt staticlib export
+ *     cc -Iinclude examples/c/decode.c target/staticlib/libexport.a -o target/decode && target/decode
+ *
+ * Sizes. The degree is 4 or 6. At degree 4 a line has n = 16 cells, k = 7 of them message; at degree 6 n = 64 and k = 51. An
+ * array is n * n cells, row after row; a message is k * k cells. The length of every slice is tested, and must be exact.
+ *
+ * Cells. 0, 1, or 2 for unsure. A message to encode and a word for bounded-distance decoding hold only 0 and 1.
+ *
+ * Filling words. The decoder tries each line twice, with the unsure cells filled by given bits and by their opposites. Bit i of
+ * a filling word is for cell i; bits from n up are not read. Any words are taken: zeros, or drawn at random as in the published
+ * algorithm.
+ *
+ * Refusals. Each function returns 0, or the number of the first test that fails, in this order. It never aborts. A refused call
+ * changes nothing that it was lent, but for the report.
+ *
+ * Reports. Where a function has more to say than the number, it writes it to `report`, whose length is part of the contract as
+ * that of any slice: another length is PUGDREL_BAD_LENGTH, and then the report is not written. A report of the right length is
+ * always written, with zeros where the call is refused.
+ *
+ * Memory. The caller owns everything. Nothing is allocated, nothing is kept after the return. Slices must not overlap, and
+ * uint64_t slices are aligned as uint64_t. No pointer may be null, not even with length 0; nothing is read or written through
+ * it then. The library has no data of its own that is written, so that calls from several threads need no lock as long as what
+ * they write is lent to one alone. The stack need, as measured, is 13 KiB for pugdrel_decode, 26 KiB for pugdrel_sheet and 9 KiB
+ * for a line. Of the C library memcpy and memset are used. */
+#ifndef PUGDREL_H
+#define PUGDREL_H
+
+#include <stddef.h>
+#include <stdint.h>
+
+#ifdef __cplusplus
+extern "C" {
+#endif
+
+/* The cells of a line, and the message cells of a line. An array has the square of the first, a message of the second. */
+#define PUGDREL_N4 16
+#define PUGDREL_K4 7
+#define PUGDREL_N6 64
+#define PUGDREL_K6 51
+
+/* Iterations that are taken, and the filling words for them: one for each line of each half, two halves an iteration. */
+#define PUGDREL_MAX_ITERATIONS 20
+#define PUGDREL_FILLING_WORDS(iterations, n) (2 * (iterations) * (n))
+
+/* The number that every function returns. */
+enum pugdrel_refusal {
+    PUGDREL_OK = 0,
+    PUGDREL_BAD_DEGREE = 1,     /* neither 4 nor 6 */
+    PUGDREL_BAD_ITERATIONS = 2, /* 0, or above 20 */
+    PUGDREL_BAD_LENGTH = 3,     /* a slice that is not of the exact length; a row number of n or more */
+    PUGDREL_BAD_CELL = 4        /* a cell above 2, or above 1 in a message or a word */
+};
+
+/* ---- Arrays. */
+
+/* The report of pugdrel_decode. */
+enum pugdrel_decode_report {
+    PUGDREL_COUNT = 0,  /* bounded-distance decodings counted over all lines */
+    PUGDREL_UNSURE = 1, /* cells still unsure */
+    PUGDREL_CLOSED = 2, /* 1 where no cell is unsure and every column is a codeword, else 0 */
+    PUGDREL_DECODE_REPORT = 3
+};
+
+/* Decodes `received` into `cells`, in `iterations` iterations of all rows and then all columns.
+ * received: n * n cells. filling: PUGDREL_FILLING_WORDS(iterations, n) words, in order of halves and then of lines.
+ * cells: n * n, written only; what they held is not tested. report: 3 numbers.
+ * Where in every received row twice the wrong cells plus the unsure ones is below 6, against an array that was sent, the cells
+ * are that array's and closed is 1. Refusals: 1, 2, 3, 4. */
+uint64_t pugdrel_decode(uint64_t degree, uint64_t iterations, const uint8_t *received, size_t received_len,
+                        const uint64_t *filling, size_t filling_len, uint8_t *cells, size_t cells_len, uint64_t *report,
+                        size_t report_len);
+
+/* Encodes a message of k * k bits into the n * n cells of its array. Refusals: 1, 3, 4. */
+uint64_t pugdrel_encode(uint64_t degree, const uint8_t *message, size_t message_len, uint8_t *cells, size_t cells_len);
+
+/* Copies the k * k message cells out of an array of n * n cells, as they are, unsure ones too. Refusals: 1, 3, 4. */
+uint64_t pugdrel_extract(uint64_t degree, const uint8_t *cells, size_t cells_len, uint8_t *message, size_t message_len);
+
+/* The report of pugdrel_row. */
+enum pugdrel_row_report {
+    PUGDREL_ROW_START = 0,  /* where the row starts in `cells`: index * n */
+    PUGDREL_ROW_LENGTH = 1, /* n */
+    PUGDREL_ROW_REPORT = 2
+};
+
+/* Looks up row `index` of an array of n * n cells: its cells are cells[start] to cells[start + length - 1].
+ * report: 2 numbers. Refusals: 1, 3 (also for an index of n or more), 4. */
+uint64_t pugdrel_row(uint64_t degree, const uint8_t *cells, size_t cells_len, size_t index, uint64_t *report,
+                     size_t report_len);
+
+/* ---- One word or line of n cells. The report of each is one number. */
+
+/* Bounded-distance decoding, in place: the one codeword within 2 of a full word. report[0] is 1 where there is one; else it is 0
+ * and the word stays as it is. Refusals: 1, 3, 4. */
+uint64_t pugdrel_bounded_distance(uint64_t degree, uint8_t *word, size_t word_len, uint64_t *report, size_t report_len);
+
+/* Decoding of a line with unsure cells, in place. report[0] is 1 where it succeeds; else it is 0 and the line stays as it is.
+ * Refusals: 1, 3, 4. */
+uint64_t pugdrel_decode_line(uint64_t degree, uint8_t *cells, size_t cells_len, uint64_t filling, uint64_t *report,
+                             size_t report_len);
+
+/* The extrinsic messages of a line: what the other cells say about each cell of the incoming line, given the channel's line.
+ * incoming, channel: n cells. messages: n cells, written only. report[0] is the count of decodings. Refusals: 1, 3, 4. */
+uint64_t pugdrel_messages(uint64_t degree, const uint8_t *incoming, size_t incoming_len, const uint8_t *channel,
+                          size_t channel_len, uint64_t filling, uint8_t *messages, size_t messages_len, uint64_t *report,
+                          size_t report_len);
+
+/* ---- The text form. */
+
+/* The length that `output` must have; no text is longer. */
+#define PUGDREL_SHEET_OUTPUT 4244
+
+/* What the program `sheet` prints for `input`: a line with the degree, then n lines of n characters 0, 1 or ?. It runs one
+ * iteration with filling words of zero. The text is written to the front of `output` (the bytes behind it stay), and report[0] is
+ * its length. Its first line is the refusal number of the input, the count, the unsure cells and closed; the decoded lines follow
+ * unless the input is refused. The call itself returns 0, or 3 where `output` or `report` is not of its length. */
+uint64_t pugdrel_sheet(const uint8_t *input, size_t input_len, uint8_t *output, size_t output_len, uint64_t *report,
+                       size_t report_len);
+
+#ifdef __cplusplus
+}
+#endif
+
+#endif
