@@ -14,7 +14,7 @@ use Rattle.field.specs.declared.syndrome.Syndrome.{Syndrome}
 use Rattle.field.specs.Degree.{size, order}
 use Rattle.field.specs.Syndrome.{s1, s3, parity, digits}
 use Rattle.field.specs.Checks.{IsSyndrome}
-use Rattle.field.specs.Fitting.{Within, Fits}
+use Rattle.field.specs.Fitting.{Fits}
 use Rattle.field.specs.Positions.{located}
 use Rattle.field.proofs.Primitive.{primitive}
 use Rattle.field.proofs.Locating.{located-fits, located-none}
