@@ -3,4 +3,4 @@ pub mod ArrayEncoding
 mod PackedEncoding
 mod Bounds
 mod Loops
-mod Refusing
+pub mod Refusing

@@ -15,15 +15,17 @@ use Rattle.field.specs.declared.degree.Degree.the-variants.{Four, Six}
 use Rattle.field.specs.declared.degree.Named.{Named}
 use Rattle.field.specs.declared.degree.Named.the-variants.{Known, Unknown}
 use Rattle.field.specs.Degree.{size, named}
-use Rattle.array.specs.declared.refusals.Refusal.{Refusal}
-use Rattle.array.specs.declared.refusals.Refusal.the-variants.{BadDegree, BadIterations, BadLength}
-use Rattle.array.specs.declared.refusals.Call.{Call}
-use Rattle.array.specs.declared.refusals.Call.the-variants.{Taken, Refused}
-use Rattle.array.specs.declared.entry.DecodeAnswer.{DecodeAnswer}
-use Rattle.array.specs.Arrays.{line}
-use Rattle.array.specs.Refusals.{refusalIn, counted, refusal, left, rowRefusal, rowPart, decodeTested as testedBelow, decodeCall as callBelow, rowTests as testsBelow}
-use Rattle.array.specs.Entries.{DecodeDone, refusalOf, cellsFor}
-use Rattle.array.proofs.ArrayLaws.{length-line}
+use Rattle.line.specs.declared.refusals.Refusal.{Refusal}
+use Rattle.line.specs.declared.refusals.Refusal.the-variants.{BadDegree, BadIterations, BadLength}
+use Rattle.line.specs.declared.refusals.Call.{Call}
+use Rattle.line.specs.declared.refusals.Call.the-variants.{Taken, Refused}
+use Rattle.decoder.specs.declared.entry.DecodeAnswer.{DecodeAnswer}
+use Rattle.packed.specs.Arrays.{line}
+use Rattle.line.specs.Refusals.{refusalIn}
+use Rattle.decoder.specs.Refusals.{counted, decodeTested as testedBelow, decodeCall as catMost}
+use Rattle.array.specs.Refusals.{refusal, left, rowRefusal, rowPart, rowTests as testsBelow}
+use Rattle.decoder.specs.Entries.{DecodeDone, refusalOf, cellsFor}
+use Rattle.packed.proofs.ArrayLaws.{length-line}
 use Rattle.array.proofs.Refusing.{row-taken, row-room}
 use Rattle.export.specs.Reports.{fits, told}
 use Rattle.export.specs.ArrayCalls.{decodeTested, decodeCall, decodeNumbers, numbersFor, DecodeTold, rowTests, rowNumbers, RowTold}
@@ -32,16 +34,16 @@ use Rattle.export.proofs.Handing.{Both, both, alike}
 -- ---- decode
 
 module _ (degree l : ℕ) (r w s : List ℕ) where
-  decode-fit : callBelow degree l r w s ≡ decodeCall true degree l r w s
-  unfolding callBelow decodeCall
+  decode-fit : catMost degree l r w s ≡ decodeCall true degree l r w s
+  unfolding catMost decodeCall
   decode-fit = go (named degree)
     where
       go : (v : Named) → testedBelow v l r w s ≡ decodeTested true v l r w s
       go (Known d) = refl
       go Unknown = refl
 
-  decode-unfit : Both Refused (callBelow degree l [] w s) (decodeCall false degree l r w s)
-  unfolding callBelow decodeCall
+  decode-unfit : Both Refused (catMost degree l [] w s) (decodeCall false degree l r w s)
+  unfolding catMost decodeCall
   decode-unfit = go (named degree) (counted l) refl
     where
       go : (v : Named) (b : Bool) → counted l ≡ b → Both Refused (testedBelow v l [] w s) (decodeTested false v l r w s)
@@ -53,14 +55,14 @@ module _ (degree l : ℕ) (r w s : List ℕ) where
 
   module _ (fit : Bool) {X : Type 0} (give : Call → List ℕ → X) where
     decode-alike : ((why : Refusal) → give (Refused why) [] ≡ give (Refused why) r)
-        → give (callBelow degree l (cond fit r []) w s) (cond fit r []) ≡ give (decodeCall fit degree l r w s) r
-    decode-alike h = alike Refused (λ p. callBelow degree l p w s) (λ b. decodeCall b degree l r w s) give r fit decode-fit decode-unfit h
+        → give (catMost degree l (cond fit r []) w s) (cond fit r []) ≡ give (decodeCall fit degree l r w s) r
+    decode-alike h = alike Refused (λ p. catMost degree l p w s) (λ b. decodeCall b degree l r w s) give r fit decode-fit decode-unfit h
 
   taken-fit : (fit : Bool) (d : Degree) → decodeCall fit degree l r w s ≡ Taken d → fit ≡ true
   taken-fit true d e = refl
   taken-fit false d e = never decode-unfit
     where
-      never : Both Refused (callBelow degree l [] w s) (decodeCall false degree l r w s) → false ≡ true
+      never : Both Refused (catMost degree l [] w s) (decodeCall false degree l r w s) → false ≡ true
       never (both why p q) = let z : _≡_ {A = ℕ} 0 1 = cc in absurd (omega arith)
 
   pub decode-told : {part after old new : List ℕ} {a : DecodeAnswer} {number : ℕ} → part ≡ cond (fits 3 old) r [] → DecodeDone degree l part w s after a
@@ -68,7 +70,7 @@ module _ (degree l : ℕ) (r w s : List ℕ) where
   decode-told {after} {old} {a} e done n t =
       let done′ = rw e at done in
       let p = cond (fits 3 old) r [] in
-      let same : decodeNumbers a ≡ numbersFor (callBelow degree l p w s) l p w = rw (done′ .count, done′ .erasures, done′ .closed) in
+      let same : decodeNumbers a ≡ numbersFor (catMost degree l p w s) l p w = rw (done′ .count, done′ .erasures, done′ .closed) in
       record {
         refusal = n ∙ done′ .refusal ∙ decode-alike (fits 3 old) (λ c p. refusalIn c) (λ why. refl);
         cells = done′ .cells ∙ decode-alike (fits 3 old) (λ c p. cellsFor c l p w s) (λ why. refl);

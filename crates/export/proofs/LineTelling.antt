@@ -12,15 +12,17 @@ use Rattle.field.specs.declared.degree.Degree.the-variants.{Four, Six}
 use Rattle.field.specs.declared.degree.Named.{Named}
 use Rattle.field.specs.declared.degree.Named.the-variants.{Known, Unknown}
 use Rattle.field.specs.Degree.{named}
-use Rattle.line.specs.declared.entry.Refusal.{Refusal}
-use Rattle.line.specs.declared.entry.Refusal.the-variants.{BadDegree, BadLength}
-use Rattle.line.specs.declared.entry.Call.{Call}
-use Rattle.line.specs.declared.entry.Call.the-variants.{Refused}
+use Rattle.line.specs.declared.refusals.Refusal.{Refusal}
+use Rattle.line.specs.declared.refusals.Refusal.the-variants.{BadDegree, BadLength}
+use Rattle.line.specs.declared.refusals.Call.{Call}
+use Rattle.line.specs.declared.refusals.Call.the-variants.{Refused}
 use Rattle.line.specs.declared.entry.LineAnswer.{LineAnswer}
-use Rattle.line.specs.declared.entry.MessagesAnswer.{MessagesAnswer}
+use Rattle.extrinsic.specs.declared.entry.MessagesAnswer.{MessagesAnswer}
 use Rattle.line.specs.Bounded.{Answer, Failed, orBack}
-use Rattle.line.specs.Refusals.{refusal as refusalIn, long, allBelow, tested, lineCall as lineBelow, messagesCall as messagesBelow}
-use Rattle.line.specs.Entries.{isFound, refusalOf, foundOf, sentRefusal, sentCount, Answered, MessagesDone, messagesFor, countFor}
+use Rattle.line.specs.Refusals.{refusalIn, long, atMost, tested, lineCall as lineBelow}
+use Rattle.extrinsic.specs.Refusals.{messagesCall as messagesBelow}
+use Rattle.line.specs.Entries.{isFound, refusalOf, foundOf, Answered}
+use Rattle.extrinsic.specs.Entries.{sentRefusal, sentCount, MessagesDone, messagesFor, countFor}
 use Rattle.export.specs.Reports.{fits, told}
 use Rattle.export.specs.LineCalls.{lineCall, messagesCall, LineTold, MessagesTold}
 use Rattle.export.proofs.Handing.{Both, both, alike, lent-length, lent-part}
@@ -45,7 +47,7 @@ module _ (bound degree : ℕ) (s : List ℕ) (answer : Call → List ℕ → Ans
 
   line-unfit : Both Refused (lineBelow bound degree []) (lineCall false bound degree s)
   unfolding lineBelow lineCall
-  line-unfit = both-short (named degree) (allBelow bound []) (allBelow bound s) no-cells (λ d. refl)
+  line-unfit = both-short (named degree) (atMost bound []) (atMost bound s) no-cells (λ d. refl)
 
   module _ (fit : Bool) {X : Type 0} (give : Call → List ℕ → X) where
     line-alike : ((why : Refusal) → give (Refused why) [] ≡ give (Refused why) s)

@@ -12,14 +12,16 @@ use Rattle.field.specs.declared.degree.Degree.{Degree}
 use Rattle.field.specs.declared.degree.Named.{Named}
 use Rattle.field.specs.declared.degree.Named.the-variants.{Known, Unknown}
 use Rattle.field.specs.Degree.{size, named}
-use Rattle.array.specs.declared.refusals.Refusal.the-variants.{BadDegree}
-use Rattle.array.specs.declared.refusals.Call.{Call}
-use Rattle.array.specs.declared.refusals.Call.the-variants.{Taken, Refused}
-use Rattle.array.specs.declared.entry.DecodeAnswer.{DecodeAnswer}
+use Rattle.line.specs.declared.refusals.Refusal.the-variants.{BadDegree}
+use Rattle.line.specs.declared.refusals.Call.{Call}
+use Rattle.line.specs.declared.refusals.Call.the-variants.{Taken, Refused}
+use Rattle.decoder.specs.declared.entry.DecodeAnswer.{DecodeAnswer}
 use Rattle.array.specs.Encoding.{Sent}
-use Rattle.array.specs.Plain.{RowCondition}
-use Rattle.array.specs.Refusals.{refusalIn, counted, fitting, atMost, tested, test, refusal, left}
-use Rattle.array.specs.Entries.{countOf, erasuresOf, closedOf, cellsFor, countFor, erasuresFor, closedFor}
+use Rattle.decoder.specs.Plain.{RowCondition}
+use Rattle.line.specs.Refusals.{refusalIn, atMost}
+use Rattle.decoder.specs.Refusals.{counted, fitting, tested}
+use Rattle.array.specs.Refusals.{test, refusal, left}
+use Rattle.decoder.specs.Entries.{countOf, erasuresOf, closedOf, cellsFor, countFor, erasuresFor, closedFor}
 use Rattle.export.specs.Reports.{fits, told}
 
 -- ---- decode, with l iterations, received array r, filling words w, and the cells to write s

@@ -1,31 +1,20 @@
 // The calls of an array.
 use crate::reports::bit_of;
 use crate::reports::lent;
+use crate::reports::number_of;
 use crate::reports::tell;
 use array::encoding::encode;
-use array::entry::DecodeAnswer;
-use array::entry::decode;
+use decoder::entry::DecodeAnswer;
+use decoder::entry::decode;
 use array::extraction::extract;
-use array::refusals::Refusal;
 use array::rows::row;
 use array::rows::row_refusal;
 ghost use mathlib.Core.Path.{_≡_};
-ghost use Rattle.array.specs.Refusals.{number, Encoded, Extracted};
-ghost use Rattle.array.specs.Entries.{refusalOf};
+ghost use Rattle.array.specs.Refusals.{Encoded, Extracted};
+ghost use Rattle.decoder.specs.Entries.{refusalOf};
 ghost use Rattle.export.specs.ArrayCalls.{decodeNumbers, DecodeTold, RowTold};
 
 // ---- an answer in document 01's numbers
-
-fn number_of(why: Refusal) -> u64
-    ensures { λ r. ⌜ r ≡ number why ⌝ }
-{
-    match why {
-        Refusal::BadDegree => 1,
-        Refusal::BadIterations => 2,
-        Refusal::BadLength => 3,
-        Refusal::BadCell => 4,
-    }
-}
 
 fn decode_refusal(answer: DecodeAnswer) -> u64
     ensures { λ r. ⌜ r ≡ refusalOf answer ⌝ }

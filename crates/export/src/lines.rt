@@ -1,32 +1,22 @@
 // The calls of one word or line.
 use crate::reports::bit_of;
 use crate::reports::lent;
+use crate::reports::number_of;
 use crate::reports::tell;
 use line::entry::LineAnswer;
-use line::entry::MessagesAnswer;
-use line::entry::Refusal;
+use extrinsic::entry::MessagesAnswer;
 use line::entry::bounded_distance;
 use line::entry::decode_line;
-use line::entry::line_messages;
+use extrinsic::entry::line_messages;
 ghost use mathlib.Core.Path.{_≡_};
 ghost use mathlib.Core.List.{[], _∷_};
 ghost use Rattle.laws.specs.Bits.{bit};
-ghost use Rattle.line.specs.Refusals.{number};
-ghost use Rattle.line.specs.Entries.{refusalOf, foundOf, sentRefusal, sentCount};
+ghost use Rattle.line.specs.Entries.{refusalOf, foundOf};
+ghost use Rattle.extrinsic.specs.Entries.{sentRefusal, sentCount};
 ghost use Rattle.export.specs.Reports.{told};
 ghost use Rattle.export.specs.LineCalls.{BoundedTold, DecodeLineTold, MessagesTold};
 
 // ---- an answer in document 01's numbers
-
-fn number_of(why: Refusal) -> u64
-    ensures { λ r. ⌜ r ≡ number why ⌝ }
-{
-    match why {
-        Refusal::BadDegree => 1,
-        Refusal::BadLength => 3,
-        Refusal::BadCell => 4,
-    }
-}
 
 fn line_refusal(answer: LineAnswer) -> u64
     ensures { λ r. ⌜ r ≡ refusalOf answer ⌝ }

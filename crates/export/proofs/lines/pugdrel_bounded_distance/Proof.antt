@@ -40,7 +40,7 @@ returns c =
     let q = t .before .before .before .before in
     let h = q .before .before in
     let s = h .before .before .before .args in
-    line-told 2 (s .degree) (s .word .now) boundedFor (λ why p. refl) (h .lent .result) (h .lent .ensures) (q .bounded-distance .ensures) (t .tell-found .ensures .0) (t .tell-found .ensures .1)
+    line-told 1 (s .degree) (s .word .now) boundedFor (λ why p. refl) (h .lent .result) (h .lent .ensures) (q .bounded-distance .ensures) (t .tell-found .ensures .0) (t .tell-found .ensures .1)
 
 pub pugdrel-bounded-distance-spec : {M : Type 1} → statement M
 pugdrel-bounded-distance-spec =

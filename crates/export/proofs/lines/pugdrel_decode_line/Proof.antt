@@ -40,7 +40,7 @@ returns c =
     let q = t .before .before .before .before in
     let h = q .before .before in
     let s = h .before .before .before .args in
-    line-told 3 (s .degree) (s .cells .now) (λ k p. decodeFor k p (s .filling)) (λ why p. refl) (h .lent .result) (h .lent .ensures) (q .decode-line .ensures) (t .tell-found .ensures .0) (t .tell-found .ensures .1)
+    line-told 2 (s .degree) (s .cells .now) (λ k p. decodeFor k p (s .filling)) (λ why p. refl) (h .lent .result) (h .lent .ensures) (q .decode-line .ensures) (t .tell-found .ensures .0) (t .tell-found .ensures .1)
 
 pub pugdrel-decode-line-spec : {M : Type 1} → statement M
 pugdrel-decode-line-spec =
