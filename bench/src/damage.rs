@@ -82,8 +82,8 @@ pub fn received(code: &Code, random: &mut Random) -> Vec<u8> {
         Damage::Mixed => hit(&sent, random.below(3 * n), random.below(6 * n), random),
         Damage::CrowdedRows => crowded(sent, n, random),
         Damage::CrowdedColumns => transposed(&crowded(transposed(&sent, n), n, random), n),
-        Damage::WithinCondition => by_rows(sent, n, 0, random),
-        Damage::AroundCondition => by_rows(sent, n, 3, random),
+        Damage::WithinCondition => within_condition(&sent, n, random),
+        Damage::AroundCondition => by_rows(&sent, n, 3, random),
         Damage::LostLines => lost_lines(sent, n, random),
         Damage::Blob => blob(sent, n, random),
         Damage::Noise => (0..all).map(|_| random.below(3) as u8).collect(),
@@ -144,8 +144,13 @@ fn crowded(cells: Vec<u8>, n: usize, random: &mut Random) -> Vec<u8> {
     cells.chunks(n).flat_map(hit_row).collect()
 }
 
-/// Every row within the condition of demand 3, but for about `beyond` of them.
-fn by_rows(cells: Vec<u8>, n: usize, beyond: usize, random: &mut Random) -> Vec<u8> {
+/// Every row within the condition of demand 3: twice the wrong cells plus the unsure ones is below 6.
+pub fn within_condition(sent: &[u8], n: usize, random: &mut Random) -> Vec<u8> {
+    by_rows(sent, n, 0, random)
+}
+
+/// Every row within the condition, but for about `beyond` of them.
+fn by_rows(cells: &[u8], n: usize, beyond: usize, random: &mut Random) -> Vec<u8> {
     let hit_row = |row: &[u8]| {
         let wrong = random.below(3);
         let left = TOO_MANY - 1 - 2 * wrong;

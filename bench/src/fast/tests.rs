@@ -7,9 +7,9 @@ use crate::random::Random;
 
 fn compare(degree: Degree, rounds: usize, most_iterations: usize, seed: u64) {
     let mut random = Random::new(seed);
-    let (code, fast, n) = (Code::new(degree), Decoder::new(degree), degree.n());
+    let (code, fast, n) = (Code::of(degree), Decoder::new(degree), degree.n());
     for _ in 0..rounds {
-        let received = damage::received(&code, &mut random);
+        let received = damage::received(code, &mut random);
         let iterations = random.between(1, most_iterations);
         let filling = damage::filling(2 * iterations * n, &mut random);
         let (expected, report) = code.decode(iterations as u64, &received, &filling);

@@ -1,6 +1,7 @@
 //! "The code": the field, the check sums, codewords, and the encoding of a line.
 
 use std::ops::Range;
+use std::sync::LazyLock;
 
 /// The degree v of the field; a line has 2^v cells.
 #[derive(Clone, Copy, Debug, PartialEq, Eq)]
@@ -81,7 +82,7 @@ pub struct Code {
 }
 
 impl Code {
-    pub fn new(degree: Degree) -> Code {
+    fn new(degree: Degree) -> Code {
         let cell_sums = (0..degree.n())
             .map(|cell| cell_sums(degree, cell))
             .collect();
@@ -92,6 +93,16 @@ impl Code {
         };
         code.check_cells = code.all_check_cells();
         code
+    }
+
+    /// The code of a degree, made once.
+    pub fn of(degree: Degree) -> &'static Code {
+        static FOUR: LazyLock<Code> = LazyLock::new(|| Code::new(Degree::Four));
+        static SIX: LazyLock<Code> = LazyLock::new(|| Code::new(Degree::Six));
+        match degree {
+            Degree::Four => &FOUR,
+            Degree::Six => &SIX,
+        }
     }
 
     pub fn n(&self) -> usize {

@@ -162,8 +162,8 @@ fn degree_of(number: u64) -> Result<Degree, Refused> {
     Degree::named(number).ok_or(1)
 }
 
-fn code_of(number: u64) -> Result<Code, Refused> {
-    degree_of(number).map(Code::new)
+fn code_of(number: u64) -> Result<&'static Code, Refused> {
+    degree_of(number).map(Code::of)
 }
 
 /// Test 3: each length beside the one that it should be.

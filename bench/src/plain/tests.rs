@@ -16,8 +16,8 @@ fn line(ones: &[usize], unsure: &[usize]) -> Vec<u8> {
     cells
 }
 
-fn four() -> Code {
-    Code::new(Degree::Four)
+fn four() -> &'static Code {
+    Code::of(Degree::Four)
 }
 
 #[test]
@@ -90,17 +90,12 @@ fn the_printed_example() {
 #[test]
 fn g_is_a_codeword_of_least_weight() {
     assert!(four().is_codeword(&line(&G, &[])));
-    let lightest = (1..1u32 << 16)
-        .filter(|bits| four_word(*bits))
-        .map(u32::count_ones)
-        .min();
-    assert_eq!(lightest, Some(6));
-
-    fn four_word(bits: u32) -> bool {
-        thread_local!(static FOUR: Code = Code::new(Degree::Four));
+    let is_codeword = |bits: &u32| {
         let word: Vec<u8> = (0..16).map(|cell| (bits >> cell & 1) as u8).collect();
-        FOUR.with(|code| code.is_codeword(&word))
-    }
+        four().is_codeword(&word)
+    };
+    let weights = (1..1u32 << 16).filter(is_codeword).map(u32::count_ones);
+    assert_eq!(weights.min(), Some(6));
 }
 
 #[test]
@@ -124,7 +119,7 @@ fn message_lengths_are_7_and_51() {
 fn an_encoded_array_holds_its_message_and_is_closed_both_ways() {
     let mut random = Random::new(3);
     for degree in Degree::ALL {
-        let code = Code::new(degree);
+        let code = Code::of(degree);
         for _ in 0..20 {
             let message = random.bits(degree.k() * degree.k());
             let cells = code.encode(&message);
@@ -140,7 +135,7 @@ fn encoding_is_linear() {
     let mut random = Random::new(4);
     let sum = |a: &[u8], b: &[u8]| a.iter().zip(b).map(|(a, b)| a ^ b).collect::<Vec<u8>>();
     for degree in Degree::ALL {
-        let code = Code::new(degree);
+        let code = Code::of(degree);
         let messages = [0, 1].map(|_| random.bits(degree.k() * degree.k()));
         let arrays = [0, 1].map(|at: usize| code.encode(&messages[at]));
         assert_eq!(
@@ -161,7 +156,7 @@ fn rows_or_columns_first_is_the_same() {
             .collect()
     };
     for degree in Degree::ALL {
-        let (code, n, k) = (Code::new(degree), degree.n(), degree.k());
+        let (code, n, k) = (Code::of(degree), degree.n(), degree.k());
         let message = random.bits(k * k);
         assert_eq!(
             code.encode(&transposed(&message, k)),
@@ -175,7 +170,7 @@ fn rows_or_columns_first_is_the_same() {
 fn a_line_within_the_condition_comes_out_as_sent() {
     let mut random = Random::new(6);
     for degree in Degree::ALL {
-        let (code, n) = (Code::new(degree), degree.n());
+        let (code, n) = (Code::of(degree), degree.n());
         for _ in 0..2000 {
             let mut sent = random.bits(n);
             code.encode_line(&mut sent);
@@ -197,9 +192,9 @@ fn every_clause_gives_the_message_of_the_definition() {
     let mut random = Random::new(7);
     let mut seen = Vec::new();
     for degree in Degree::ALL {
-        let (code, n) = (Code::new(degree), degree.n());
+        let (code, n) = (Code::of(degree), degree.n());
         for _ in 0..3000 {
-            let (incoming, channel) = damaged_pair(&code, &mut random);
+            let (incoming, channel) = damaged_pair(code, &mut random);
             let filling = random.word();
             let clauses = code.clauses(&incoming, &channel, filling);
             let own = code.decode_line(&incoming, filling);

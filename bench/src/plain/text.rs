@@ -6,8 +6,7 @@ use super::{Code, Degree, UNSURE};
 pub fn printed(input: &[u8]) -> Vec<u8> {
     match cells_of(input) {
         Ok((degree, received)) => {
-            let code = Code::new(degree);
-            let (cells, report) = code.decode(1, &received, &vec![0; 2 * degree.n()]);
+            let (cells, report) = Code::of(degree).decode(1, &received, &vec![0; 2 * degree.n()]);
             let closed = u8::from(report.closed);
             let mut text =
                 format!("0 {} {} {closed}\n", report.count, report.erasures).into_bytes();

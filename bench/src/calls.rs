@@ -1,0 +1,192 @@
+//! Random calls: good ones, and ones with several faults at once.
+
+use crate::call::{Call, Entry};
+use crate::damage;
+use crate::plain::entries::SHEET_OUTPUT;
+use crate::plain::{Code, Degree, text};
+use crate::random::Random;
+
+/// Every entry, the ones with more to go wrong more often.
+const ENTRIES: [Entry; 20] = [
+    Entry::Decode,
+    Entry::Decode,
+    Entry::Decode,
+    Entry::Decode,
+    Entry::Decode,
+    Entry::Decode,
+    Entry::Encode,
+    Entry::Extract,
+    Entry::Row,
+    Entry::BoundedDistance,
+    Entry::BoundedDistance,
+    Entry::DecodeLine,
+    Entry::DecodeLine,
+    Entry::DecodeLine,
+    Entry::Messages,
+    Entry::Messages,
+    Entry::Messages,
+    Entry::Messages,
+    Entry::Sheet,
+    Entry::Sheet,
+];
+
+/// A call of a random entry; one in four has faults.
+pub fn random_call(random: &mut Random) -> Call {
+    let entry = random.pick(&ENTRIES);
+    let mut call = good_call(entry, random);
+    if random.one_in(4) {
+        for _ in 0..random.between(1, 3) {
+            add_fault(&mut call, random);
+        }
+    }
+    call
+}
+
+/// A call that is taken. What is only written holds any bytes.
+fn good_call(entry: Entry, random: &mut Random) -> Call {
+    // One plain decoding of degree 6 takes as long as some fifty of degree 4.
+    let degree = random.pick(&[Degree::Four, Degree::Four, Degree::Six]);
+    let (code, n, k) = (Code::of(degree), degree.n(), degree.k());
+    let mut call = Call::new(entry, degree.number());
+    match entry {
+        Entry::Decode => {
+            call.iterations = iterations(degree, random);
+            call.input = damage::received(code, random);
+            call.filling = damage::filling(2 * call.iterations as usize * n, random);
+            call.output = random.bytes(n * n);
+            call.report = random.words(3);
+        }
+        Entry::Encode => {
+            call.input = random.bits(k * k);
+            call.output = random.bytes(n * n);
+        }
+        Entry::Extract => {
+            call.input = damage::received(code, random);
+            call.output = random.bytes(k * k);
+        }
+        Entry::Row => {
+            call.input = damage::received(code, random);
+            call.index = random.below(n);
+            call.report = random.words(2);
+        }
+        Entry::BoundedDistance => {
+            call.output = word(code, random);
+            call.report = random.words(1);
+        }
+        Entry::DecodeLine => {
+            call.output = damage::line(code, random);
+            call.filling = damage::filling(1, random);
+            call.report = random.words(1);
+        }
+        Entry::Messages => {
+            (call.input, call.channel) = damage::line_pair(code, random);
+            call.filling = damage::filling(1, random);
+            call.output = random.bytes(n);
+            call.report = random.words(1);
+        }
+        Entry::Sheet => {
+            call.degree = 0;
+            call.input = sheet_text(degree, random);
+            call.output = random.bytes(SHEET_OUTPUT);
+            call.report = random.words(1);
+        }
+    }
+    call
+}
+
+/// 1 to 20, mostly few: the plain decoding takes its time.
+fn iterations(degree: Degree, random: &mut Random) -> u64 {
+    let usual = match degree {
+        Degree::Four => 6,
+        Degree::Six => 3,
+    };
+    let most = if random.one_in(12) { 20 } else { usual };
+    random.between(1, most) as u64
+}
+
+/// A full word: a codeword with up to 4 cells flipped, or any.
+fn word(code: &Code, random: &mut Random) -> Vec<u8> {
+    let mut word = random.bits(code.n());
+    if random.one_in(8) {
+        return word;
+    }
+    code.encode_line(&mut word);
+    let wrong = random.below(5);
+    damage::hit(&word, wrong, 0, random)
+}
+
+/// A text for `sheet`, in one of three cases a broken one.
+fn sheet_text(degree: Degree, random: &mut Random) -> Vec<u8> {
+    let mut input = text::sheet_input(degree, &damage::received(Code::of(degree), random));
+    if random.one_in(3) {
+        for _ in 0..random.between(1, 3) {
+            break_text(&mut input, random);
+        }
+    }
+    input
+}
+
+/// Changes a text in one of the ways that a sender may.
+fn break_text(input: &mut Vec<u8>, random: &mut Random) {
+    let length = input.len();
+    let place = random.below(length + 1);
+    let byte = random.pick(b"01?\n\r 2x4\0\xff");
+    match random.below(8) {
+        0 => input.insert(place, byte),
+        1 if place < length => {
+            input.remove(place);
+        }
+        2 | 3 if place < length => input[place] = byte,
+        4 if length > 0 => input[0] = random.pick(b"45670 \n"),
+        5 => input.truncate(place),
+        6 if length > 1 => input.swap(place.min(length - 2), place.min(length - 2) + 1),
+        _ => input.push(byte),
+    }
+}
+
+/// Adds one fault of those that the entry can have, and a few that are none: an old byte in a slice that is only written
+/// is not tested.
+fn add_fault(call: &mut Call, random: &mut Random) {
+    match random.below(8) {
+        0 => call.degree = random.pick(&[0, 3, 5, 7, 8, 64, u64::MAX]),
+        1 => call.iterations = random.pick(&[0, 21, 22, 1 << 32, 1 << 58, u64::MAX]),
+        2 => call.index = random.pick(&[16, 17, 63, 64, 65, 1 << 40, usize::MAX]),
+        3 => resize(&mut call.input, random),
+        4 => {
+            if random.one_in(2) {
+                resize(&mut call.output, random);
+            } else {
+                resize(&mut call.channel, random);
+            }
+        }
+        5 => {
+            if random.one_in(2) {
+                resize(&mut call.report, random);
+            } else if call.entry == Entry::Decode {
+                resize(&mut call.filling, random);
+            }
+        }
+        _ => {
+            let slices = [&mut call.input, &mut call.channel, &mut call.output];
+            for cells in slices {
+                if !cells.is_empty() && random.one_in(2) {
+                    let place = random.below(cells.len());
+                    cells[place] = random.pick(&[2, 3, 3, 4, 48, 128, 255]);
+                }
+            }
+        }
+    }
+}
+
+/// Another length: one more or less, none, half, or twice as much.
+fn resize<T: Copy + Default>(cells: &mut Vec<T>, random: &mut Random) {
+    let length = cells.len();
+    let other = match random.below(6) {
+        0 => 0,
+        1 => length / 2,
+        2 => 2 * length,
+        3 => length.saturating_sub(1),
+        _ => length + 1,
+    };
+    cells.resize(other, T::default());
+}

@@ -1,0 +1,386 @@
+//! The command `simulate`: a receiver behind additive white Gaussian noise, for arrays of 64 by 64 bits.
+//!
+//! As in source document 000, a bit x is sent as 1 or -1, noise is added, and a value between -T and T is marked unsure;
+//! T = 0 marks none. Two things are seen: how many bits are wrong after decoding, and how many decodings that takes.
+
+use std::fs;
+use std::path::{Path, PathBuf};
+
+use crate::arguments::{Arguments, Failure};
+use crate::plain::{Degree, UNSURE};
+use crate::pugdrel::{self, Refusal};
+use crate::random::Random;
+use crate::svg::{Axis, Plot, Series};
+use crate::timing::default_plots;
+
+const DEGREE: Degree = Degree::Six;
+
+/// "For PCs 20 iterations": with these the bit error rate is measured.
+const RATE_ITERATIONS: u64 = 20;
+
+/// "20 half-iterations": with these the decodings are counted.
+const COUNT_ITERATIONS: u64 = 10;
+
+/// The bit error rate at which the paper reads off its noise thresholds.
+const TARGET: f64 = 1e-4;
+
+/// Thresholds of which the best is taken.
+const THRESHOLDS: [f64; 8] = [0.0, 0.04, 0.08, 0.12, 0.16, 0.20, 0.24, 0.28];
+
+pub fn simulate(mut arguments: Arguments) -> Result<(), Failure> {
+    let arrays: usize = arguments.option("arrays", 1000)?;
+    let seed: u64 = arguments.option("seed", 1)?;
+    let from: f64 = arguments.option("from", 3.5)?;
+    let to: f64 = arguments.option("to", 5.5)?;
+    let step: f64 = arguments.option("step", 0.25)?;
+    let probe: f64 = arguments.option("probe", 4.25)?;
+    let plots: PathBuf = arguments.option("plots", default_plots())?;
+    arguments.end()?;
+    if arrays == 0 || step <= 0.0 {
+        return Err("there must be at least one array a point, and a step above 0".into());
+    }
+    fs::create_dir_all(&plots)?;
+    let mut random = Random::new(seed);
+
+    let best = best_threshold(probe, arrays, &mut random)?;
+    let thresholds = [0.0, best];
+    let count = ((to - from) / step).round() as usize;
+    let mut points = Vec::new();
+    for at in 0..=count {
+        let decibels = from + at as f64 * step;
+        eprintln!("Eb/N0 = {decibels:.2} dB");
+        points.push(Point {
+            decibels,
+            results: measure(decibels, &thresholds, arrays, true, &mut random)?,
+        });
+    }
+    print_rates(&points, best);
+    print_counts(&points, best);
+    plot_rates(&points, best, &plots)?;
+    plot_counts(&points, best, &plots)
+}
+
+/// What was seen at one strength of the noise, without the mark and with it.
+struct Point {
+    decibels: f64,
+    results: Vec<Seen>,
+}
+
+/// Sums over the arrays of a point, for one threshold.
+#[derive(Clone, Default)]
+struct Seen {
+    bits: f64,
+    /// Known bits that are wrong, and unsure ones, before decoding.
+    received_wrong: f64,
+    received_unsure: f64,
+    /// The same after it; an unsure bit is wrong in half of the cases, if it is guessed.
+    wrong: f64,
+    unsure: f64,
+    arrays: f64,
+    closed: f64,
+    /// Arrays that are closed and yet not what was sent.
+    false_closed: f64,
+    /// Decodings in all iterations, and in those up to the first that leaves the array closed.
+    decodings: f64,
+    decodings_to_closed: f64,
+}
+
+impl Seen {
+    /// The bit error rate after decoding.
+    fn rate(&self) -> f64 {
+        (self.wrong + self.unsure / 2.0) / self.bits
+    }
+
+    /// Rows and columns of all arrays.
+    fn lines(&self) -> f64 {
+        self.arrays * 2.0 * DEGREE.n() as f64
+    }
+}
+
+/// The threshold of those tried with the lowest bit error rate at one strength of the noise.
+fn best_threshold(decibels: f64, arrays: usize, random: &mut Random) -> Result<f64, Failure> {
+    eprintln!("the threshold, at Eb/N0 = {decibels:.2} dB");
+    let results = measure(decibels, &THRESHOLDS, arrays, false, random)?;
+    println!("Eb/N0 = {decibels:.2} dB, {arrays} arrays, L = {RATE_ITERATIONS}:");
+    println!();
+    println!("| T | received wrong | received unsure | bit error rate |");
+    println!("|---|---|---|---|");
+    for (threshold, seen) in THRESHOLDS.iter().zip(&results) {
+        println!(
+            "| {threshold:.2} | {:.2}% | {:.2}% | {:.2e} |",
+            100.0 * seen.received_wrong / seen.bits,
+            100.0 * seen.received_unsure / seen.bits,
+            seen.rate()
+        );
+    }
+    println!();
+    let tried = THRESHOLDS.iter().zip(&results);
+    let best = tried.min_by(|a, b| a.1.rate().total_cmp(&b.1.rate()));
+    Ok(best.map_or(0.0, |(&threshold, _)| threshold))
+}
+
+/// Sends arrays, and decodes what comes through with each threshold: the same noise for all of them.
+fn measure(
+    decibels: f64,
+    thresholds: &[f64],
+    arrays: usize,
+    counted: bool,
+    random: &mut Random,
+) -> Result<Vec<Seen>, Failure> {
+    let (n, k) = (DEGREE.n(), DEGREE.k());
+    let deviation = noise_deviation(decibels);
+    let mut results = vec![Seen::default(); thresholds.len()];
+    let mut sent = vec![0; n * n];
+    for _ in 0..arrays {
+        pugdrel::encode(DEGREE.number(), &random.bits(k * k), &mut sent)?;
+        let values: Vec<f64> = sent
+            .iter()
+            .map(|&bit| 1.0 - 2.0 * f64::from(bit) + deviation * random.normal())
+            .collect();
+        let filling = random.words(2 * RATE_ITERATIONS as usize * n);
+        for (&threshold, seen) in thresholds.iter().zip(&mut results) {
+            let received: Vec<u8> = values
+                .iter()
+                .map(|&value| decide(value, threshold))
+                .collect();
+            seen.add_rate(&sent, &received, &filling)?;
+            if counted {
+                seen.add_counts(&received, &filling)?;
+            }
+        }
+    }
+    Ok(results)
+}
+
+impl Seen {
+    fn add_rate(&mut self, sent: &[u8], received: &[u8], filling: &[u64]) -> Result<(), Refusal> {
+        let mut cells = vec![0; sent.len()];
+        let number = DEGREE.number();
+        let report = pugdrel::decode(number, RATE_ITERATIONS, received, filling, &mut cells)?;
+        let unsure = |cells: &[u8]| cells.iter().filter(|&&cell| cell == UNSURE).count() as f64;
+        let apart = |cells: &[u8]| cells.iter().zip(sent).filter(|(a, b)| a != b).count() as f64;
+        self.arrays += 1.0;
+        self.bits += sent.len() as f64;
+        self.received_unsure += unsure(received);
+        self.received_wrong += apart(received) - unsure(received);
+        self.unsure += unsure(&cells);
+        self.wrong += apart(&cells) - unsure(&cells);
+        self.closed += f64::from(report.closed);
+        self.false_closed += f64::from(report.closed && cells != sent);
+        Ok(())
+    }
+
+    /// The first words of the filling serve fewer iterations just as they serve more, so that what a caller sees who
+    /// asks for one iteration more until the array is closed is what one decoding would see that stops there.
+    fn add_counts(&mut self, received: &[u8], filling: &[u64]) -> Result<(), Refusal> {
+        let mut cells = vec![0; received.len()];
+        let mut to_closed = None;
+        for iterations in 1..=COUNT_ITERATIONS {
+            if to_closed.is_some() && iterations < COUNT_ITERATIONS {
+                continue;
+            }
+            let words = 2 * iterations as usize * DEGREE.n();
+            let number = DEGREE.number();
+            let report =
+                pugdrel::decode(number, iterations, received, &filling[..words], &mut cells)?;
+            if report.closed || iterations == COUNT_ITERATIONS {
+                to_closed.get_or_insert(report.count);
+            }
+            if iterations == COUNT_ITERATIONS {
+                self.decodings += report.count as f64;
+            }
+        }
+        self.decodings_to_closed += to_closed.unwrap_or_default() as f64;
+        Ok(())
+    }
+}
+
+/// The receiver's choice.
+fn decide(value: f64, threshold: f64) -> u8 {
+    if value.abs() < threshold {
+        UNSURE
+    } else {
+        u8::from(value < 0.0)
+    }
+}
+
+/// The rate of the code, by which the energy of a message bit is that of a sent bit.
+fn code_rate() -> f64 {
+    (DEGREE.k() as f64 / DEGREE.n() as f64).powi(2)
+}
+
+/// Es/N0 in decibels for Eb/N0 in decibels.
+fn sent_decibels(decibels: f64) -> f64 {
+    decibels + 10.0 * code_rate().log10()
+}
+
+/// The variance is half of N0 / Es.
+fn noise_deviation(decibels: f64) -> f64 {
+    (0.5 / 10f64.powf(sent_decibels(decibels) / 10.0)).sqrt()
+}
+
+/// Where the bit error rate of curve `which` falls to the target: between two points on a straight line in the logarithm.
+fn crossing(points: &[Point], which: usize) -> Option<f64> {
+    let pairs = points.windows(2).find_map(|pair| {
+        let [before, after] = [0, 1].map(|at: usize| pair[at].results[which].rate());
+        let falls = before > TARGET && after <= TARGET && after > 0.0;
+        falls.then(|| {
+            let part = (before / TARGET).ln() / (before / after).ln();
+            pair[0].decibels + part * (pair[1].decibels - pair[0].decibels)
+        })
+    });
+    pairs
+}
+
+fn print_rates(points: &[Point], best: f64) {
+    println!("Bits wrong after decoding with L = {RATE_ITERATIONS}, T = 0 and T = {best:.2}:");
+    println!();
+    println!(
+        "| Eb/N0, dB | Es/N0, dB | received wrong, T = 0 | bit error rate, T = 0 | bit error rate, T = {best:.2} \
+         | closed, T = 0 | closed, T = {best:.2} | closed and wrong, both |"
+    );
+    println!("|---|---|---|---|---|---|---|---|");
+    for point in points {
+        let [hard, marked] = [&point.results[0], &point.results[1]];
+        println!(
+            "| {:.2} | {:.2} | {:.2}% | {:.2e} | {:.2e} | {:.1}% | {:.1}% | {} of {} |",
+            point.decibels,
+            sent_decibels(point.decibels),
+            100.0 * hard.received_wrong / hard.bits,
+            hard.rate(),
+            marked.rate(),
+            100.0 * hard.closed / hard.arrays,
+            100.0 * marked.closed / marked.arrays,
+            hard.false_closed + marked.false_closed,
+            hard.closed + marked.closed
+        );
+    }
+    println!();
+    if let (Some(hard), Some(marked)) = (crossing(points, 0), crossing(points, 1)) {
+        println!(
+            "A bit error rate of {TARGET:.0e} is reached at {hard:.2} dB without the mark and at {marked:.2} dB with it: \
+             a gain of {:.2} dB.",
+            hard - marked
+        );
+        println!();
+    }
+}
+
+fn print_counts(points: &[Point], best: f64) {
+    println!("Decodings for each row or column in {COUNT_ITERATIONS} iterations:");
+    println!();
+    println!(
+        "| Eb/N0, dB | all, T = 0 | all, T = {best:.2} | to the first closed, T = 0 | to the first closed, T = {best:.2} |"
+    );
+    println!("|---|---|---|---|---|");
+    for point in points {
+        let by_line = |sum: fn(&Seen) -> f64| {
+            let numbers = point.results.iter().map(|seen| sum(seen) / seen.lines());
+            let texts: Vec<String> = numbers.map(|number| format!("{number:.2}")).collect();
+            texts.join(" | ")
+        };
+        println!(
+            "| {:.2} | {} | {} |",
+            point.decibels,
+            by_line(|seen| seen.decodings),
+            by_line(|seen| seen.decodings_to_closed)
+        );
+    }
+    println!();
+}
+
+fn plot_rates(points: &[Point], best: f64, plots: &Path) -> Result<(), Failure> {
+    let curve = |name: String, value: &dyn Fn(&Point) -> f64| Series {
+        name,
+        points: points
+            .iter()
+            .map(|point| (point.decibels, value(point)))
+            .collect(),
+    };
+    let plot = Plot {
+        title: format!("Bit error rate, 64 by 64, L = {RATE_ITERATIONS}"),
+        x: Axis::linear("Eb/N0, dB"),
+        y: Axis::log("bit error rate"),
+        series: vec![
+            curve("received, T = 0".to_string(), &|point| {
+                point.results[0].received_wrong / point.results[0].bits
+            }),
+            curve("decoded, T = 0".to_string(), &|point| {
+                point.results[0].rate()
+            }),
+            curve(format!("decoded, T = {best:.2}"), &|point| {
+                point.results[1].rate()
+            }),
+        ],
+    };
+    fs::write(plots.join("bit-error-rate.svg"), plot.to_svg())?;
+    Ok(())
+}
+
+fn plot_counts(points: &[Point], best: f64, plots: &Path) -> Result<(), Failure> {
+    let curve = |name: String, which: usize, sum: fn(&Seen) -> f64| Series {
+        name,
+        points: points
+            .iter()
+            .map(|point| {
+                let seen = &point.results[which];
+                (point.decibels, sum(seen) / seen.lines())
+            })
+            .collect(),
+    };
+    let plot = Plot {
+        title: format!(
+            "Decodings for each row or column, 64 by 64, at most {COUNT_ITERATIONS} iterations"
+        ),
+        x: Axis::linear("Eb/N0, dB"),
+        y: Axis::log("decodings"),
+        series: vec![
+            curve("all, T = 0".to_string(), 0, |seen| seen.decodings),
+            curve(format!("all, T = {best:.2}"), 1, |seen| seen.decodings),
+            curve("to closed, T = 0".to_string(), 0, |seen| {
+                seen.decodings_to_closed
+            }),
+            curve(format!("to closed, T = {best:.2}"), 1, |seen| {
+                seen.decodings_to_closed
+            }),
+        ],
+    };
+    fs::write(plots.join("decodings.svg"), plot.to_svg())?;
+    Ok(())
+}
+
+#[cfg(test)]
+mod tests {
+    use super::*;
+
+    #[test]
+    fn the_receiver_marks_what_is_near_zero() {
+        assert_eq!(
+            [1.2, 0.1, -0.1, -0.9].map(|value| decide(value, 0.2)),
+            [0, 2, 2, 1]
+        );
+        assert_eq!([0.0, 0.1, -0.1].map(|value| decide(value, 0.0)), [0, 0, 1]);
+    }
+
+    #[test]
+    fn the_noise_is_that_of_the_rate() {
+        // Es/N0 is Eb/N0 times 51² / 64², and the variance at Es/N0 = 1 is 1/2.
+        assert!((sent_decibels(0.0) + 1.972).abs() < 0.001);
+        assert!((noise_deviation(1.972).powi(2) - 0.5).abs() < 0.001);
+    }
+
+    #[test]
+    fn the_crossing_is_on_the_line_between_two_points() {
+        let point = |decibels, wrong| Point {
+            decibels,
+            results: vec![Seen {
+                bits: 1e6,
+                wrong,
+                ..Seen::default()
+            }],
+        };
+        let points = [point(4.0, 1e4), point(4.5, 1e3), point(5.0, 10.0)];
+        let crossing = crossing(&points, 0).unwrap();
+        assert!((crossing - 4.75).abs() < 1e-9);
+    }
+}
