@@ -44,8 +44,7 @@ pub fn random_call(random: &mut Random) -> Call {
 
 /// A call that is taken. What is only written holds any bytes.
 fn good_call(entry: Entry, random: &mut Random) -> Call {
-    // One plain decoding of degree 6 takes as long as some fifty of degree 4.
-    let degree = random.pick(&[Degree::Four, Degree::Four, Degree::Six]);
+    let degree = random.pick(&Degree::ALL);
     let (code, n, k) = (Code::of(degree), degree.n(), degree.k());
     let mut call = Call::new(entry, degree.number());
     match entry {
@@ -97,10 +96,10 @@ fn good_call(entry: Entry, random: &mut Random) -> Call {
 /// 1 to 20, mostly few: the plain decoding takes its time.
 fn iterations(degree: Degree, random: &mut Random) -> u64 {
     let usual = match degree {
-        Degree::Four => 6,
-        Degree::Six => 3,
+        Degree::Four => 8,
+        Degree::Six => 4,
     };
-    let most = if random.one_in(12) { 20 } else { usual };
+    let most = if random.one_in(8) { 20 } else { usual };
     random.between(1, most) as u64
 }
 
@@ -144,37 +143,81 @@ fn break_text(input: &mut Vec<u8>, random: &mut Random) {
     }
 }
 
-/// Adds one fault of those that the entry can have, and a few that are none: an old byte in a slice that is only written
-/// is not tested.
+/// What can be wrong with a call.
+#[derive(Clone, Copy)]
+enum Fault {
+    Degree,
+    Iterations,
+    Index,
+    InputLength,
+    ChannelLength,
+    FillingLength,
+    OutputLength,
+    ReportLength,
+    InputCell,
+    ChannelCell,
+    /// A fault only where the output is worked on in place: old cells of a slice that is only written are not tested.
+    OutputCell,
+}
+
+/// The faults that a call of this entry can have.
+fn faults_of(entry: Entry) -> &'static [Fault] {
+    use Fault::*;
+    match entry {
+        Entry::Decode => &[
+            Degree,
+            Iterations,
+            InputLength,
+            FillingLength,
+            OutputLength,
+            ReportLength,
+            InputCell,
+            OutputCell,
+        ],
+        Entry::Encode | Entry::Extract => {
+            &[Degree, InputLength, OutputLength, InputCell, OutputCell]
+        }
+        Entry::Row => &[Degree, Index, InputLength, ReportLength, InputCell],
+        Entry::BoundedDistance | Entry::DecodeLine => {
+            &[Degree, OutputLength, ReportLength, OutputCell]
+        }
+        Entry::Messages => &[
+            Degree,
+            InputLength,
+            ChannelLength,
+            OutputLength,
+            ReportLength,
+            InputCell,
+            ChannelCell,
+            OutputCell,
+        ],
+        Entry::Sheet => &[OutputLength, ReportLength, InputLength],
+    }
+}
+
 fn add_fault(call: &mut Call, random: &mut Random) {
-    match random.below(8) {
-        0 => call.degree = random.pick(&[0, 3, 5, 7, 8, 64, u64::MAX]),
-        1 => call.iterations = random.pick(&[0, 21, 22, 1 << 32, 1 << 58, u64::MAX]),
-        2 => call.index = random.pick(&[16, 17, 63, 64, 65, 1 << 40, usize::MAX]),
-        3 => resize(&mut call.input, random),
-        4 => {
-            if random.one_in(2) {
-                resize(&mut call.output, random);
-            } else {
-                resize(&mut call.channel, random);
-            }
+    match random.pick(faults_of(call.entry)) {
+        Fault::Degree => call.degree = random.pick(&[0, 3, 5, 7, 8, 64, u64::MAX]),
+        Fault::Iterations => {
+            call.iterations = random.pick(&[0, 21, 22, 1 << 32, 1 << 58, u64::MAX]);
         }
-        5 => {
-            if random.one_in(2) {
-                resize(&mut call.report, random);
-            } else if call.entry == Entry::Decode {
-                resize(&mut call.filling, random);
-            }
-        }
-        _ => {
-            let slices = [&mut call.input, &mut call.channel, &mut call.output];
-            for cells in slices {
-                if !cells.is_empty() && random.one_in(2) {
-                    let place = random.below(cells.len());
-                    cells[place] = random.pick(&[2, 3, 3, 4, 48, 128, 255]);
-                }
-            }
-        }
+        Fault::Index => call.index = random.pick(&[16, 17, 63, 64, 65, 1 << 40, usize::MAX]),
+        Fault::InputLength => resize(&mut call.input, random),
+        Fault::ChannelLength => resize(&mut call.channel, random),
+        Fault::FillingLength => resize(&mut call.filling, random),
+        Fault::OutputLength => resize(&mut call.output, random),
+        Fault::ReportLength => resize(&mut call.report, random),
+        Fault::InputCell => spoil(&mut call.input, random),
+        Fault::ChannelCell => spoil(&mut call.channel, random),
+        Fault::OutputCell => spoil(&mut call.output, random),
+    }
+}
+
+/// A cell that is not 0 or 1: unsure, or none at all.
+fn spoil(cells: &mut [u8], random: &mut Random) {
+    if !cells.is_empty() {
+        let ends = [0, cells.len() - 1, random.below(cells.len())];
+        cells[random.pick(&ends)] = random.pick(&[2, 3, 3, 4, 48, 128, 255]);
     }
 }
 

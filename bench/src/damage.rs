@@ -39,6 +39,8 @@ enum Damage {
     WithinCondition,
     /// The same with some rows at 6 or just above.
     AroundCondition,
+    /// Every row lies between the sent codeword and one nearest to it.
+    BetweenCodewords,
     /// Some rows and columns are lost as a whole.
     LostLines,
     /// A square of wrong or unsure cells, the shape that iterative decoding is stuck with.
@@ -49,7 +51,7 @@ enum Damage {
     KnownNoise,
 }
 
-const DAMAGES: [Damage; 15] = [
+const DAMAGES: [Damage; 16] = [
     Damage::None,
     Damage::FewWrong,
     Damage::ManyWrong,
@@ -61,6 +63,7 @@ const DAMAGES: [Damage; 15] = [
     Damage::CrowdedColumns,
     Damage::WithinCondition,
     Damage::AroundCondition,
+    Damage::BetweenCodewords,
     Damage::LostLines,
     Damage::Blob,
     Damage::Noise,
@@ -84,6 +87,10 @@ pub fn received(code: &Code, random: &mut Random) -> Vec<u8> {
         Damage::CrowdedColumns => transposed(&crowded(transposed(&sent, n), n, random), n),
         Damage::WithinCondition => within_condition(&sent, n, random),
         Damage::AroundCondition => by_rows(&sent, n, 3, random),
+        Damage::BetweenCodewords => {
+            let rows = sent.chunks(n);
+            rows.flat_map(|row| between(code, row, random)).collect()
+        }
         Damage::LostLines => lost_lines(sent, n, random),
         Damage::Blob => blob(sent, n, random),
         Damage::Noise => (0..all).map(|_| random.below(3) as u8).collect(),
@@ -102,6 +109,9 @@ pub fn line(code: &Code, random: &mut Random) -> Vec<u8> {
     }
     let mut sent = random.bits(n);
     code.encode_line(&mut sent);
+    if random.one_in(3) {
+        return between(code, &sent, random);
+    }
     hit(
         &sent,
         random.below(5),
@@ -122,6 +132,29 @@ pub fn line_pair(code: &Code, random: &mut Random) -> (Vec<u8>, Vec<u8>) {
         incoming[cell] = random.below(3) as u8;
     }
     (incoming, channel)
+}
+
+/// A line between a codeword and one of those that differ from it in 6 cells: there it holds the one's cell, the other's,
+/// or is unsure. Here both filled words may decode, to different codewords, and the choice between them counts.
+fn between(code: &Code, codeword: &[u8], random: &mut Random) -> Vec<u8> {
+    // About one in four words with 4 wrong cells is decoded to a neighbour.
+    let neighbour = (0..30).find_map(|_| {
+        let decoded = code.bounded_distance(&hit(codeword, 4, 0, random))?;
+        (decoded != codeword).then_some(decoded)
+    });
+    let Some(neighbour) = neighbour else {
+        return codeword.to_vec();
+    };
+    let cells = codeword.iter().zip(&neighbour);
+    cells
+        .map(|(&cell, &other)| {
+            if cell == other {
+                cell
+            } else {
+                random.pick(&[cell, other, UNSURE])
+            }
+        })
+        .collect()
 }
 
 /// Filling words: zeros, ones, a mix of both, or any.

@@ -15,7 +15,7 @@ bench COMMAND
   malformed PATH [--seed S]            the program 'sheet' at PATH on good and broken inputs
   timing [--rounds R] [--seed S] [--plots DIR]
                                        the library beside the implementations in Rust
-  simulate [--arrays N] [--seed S] [--from DB] [--to DB] [--step DB] [--probe DB] [--plots DIR]
+  simulate [--arrays N] [--failures F] [--seed S] [--from DB] [--to DB] [--step DB] [--probe DB] [--plots DIR]
                                        a receiver behind Gaussian noise: bit error rates and decodings
 ";
 

@@ -25,7 +25,7 @@ impl Random {
 
     /// A number below `bound`. The tiny preference for low numbers does not matter here.
     pub fn below(&mut self, bound: usize) -> usize {
-        (u128::from(self.word()) * bound as u128 >> 64) as usize
+        ((u128::from(self.word()) * bound as u128) >> 64) as usize
     }
 
     /// A number from `low` to `high`, both included.

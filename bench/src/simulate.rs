@@ -25,24 +25,27 @@ const COUNT_ITERATIONS: u64 = 10;
 const TARGET: f64 = 1e-4;
 
 /// Thresholds of which the best is taken.
-const THRESHOLDS: [f64; 8] = [0.0, 0.04, 0.08, 0.12, 0.16, 0.20, 0.24, 0.28];
+const THRESHOLDS: [f64; 7] = [0.04, 0.08, 0.12, 0.16, 0.20, 0.24, 0.28];
 
 pub fn simulate(mut arguments: Arguments) -> Result<(), Failure> {
-    let arrays: usize = arguments.option("arrays", 1000)?;
+    let extent = Extent {
+        arrays: arguments.option("arrays", 10_000)?,
+        failures: arguments.option("failures", 100)?,
+    };
     let seed: u64 = arguments.option("seed", 1)?;
-    let from: f64 = arguments.option("from", 3.5)?;
-    let to: f64 = arguments.option("to", 5.5)?;
+    let from: f64 = arguments.option("from", 2.5)?;
+    let to: f64 = arguments.option("to", 4.5)?;
     let step: f64 = arguments.option("step", 0.25)?;
-    let probe: f64 = arguments.option("probe", 4.25)?;
+    let probe: f64 = arguments.option("probe", 3.25)?;
     let plots: PathBuf = arguments.option("plots", default_plots())?;
     arguments.end()?;
-    if arrays == 0 || step <= 0.0 {
+    if extent.arrays == 0 || step <= 0.0 {
         return Err("there must be at least one array a point, and a step above 0".into());
     }
     fs::create_dir_all(&plots)?;
     let mut random = Random::new(seed);
 
-    let best = best_threshold(probe, arrays, &mut random)?;
+    let best = best_threshold(probe, extent, &mut random)?;
     let thresholds = [0.0, best];
     let count = ((to - from) / step).round() as usize;
     let mut points = Vec::new();
@@ -51,13 +54,28 @@ pub fn simulate(mut arguments: Arguments) -> Result<(), Failure> {
         eprintln!("Eb/N0 = {decibels:.2} dB");
         points.push(Point {
             decibels,
-            results: measure(decibels, &thresholds, arrays, true, &mut random)?,
+            results: measure(decibels, &thresholds, extent, true, &mut random)?,
         });
     }
     print_rates(&points, best);
     print_counts(&points, best);
     plot_rates(&points, best, &plots)?;
     plot_counts(&points, best, &plots)
+}
+
+/// How long a point is measured: until every threshold has failed on so many arrays, or until so many were sent.
+#[derive(Clone, Copy)]
+struct Extent {
+    arrays: usize,
+    failures: usize,
+}
+
+impl Extent {
+    fn goes_on(self, results: &[Seen]) -> bool {
+        let sent = |seen: &Seen| seen.arrays >= self.arrays as f64;
+        let failed = |seen: &Seen| seen.failures >= self.failures as f64;
+        !results.iter().all(|seen| sent(seen) || failed(seen))
+    }
 }
 
 /// What was seen at one strength of the noise, without the mark and with it.
@@ -77,6 +95,8 @@ struct Seen {
     wrong: f64,
     unsure: f64,
     arrays: f64,
+    /// Arrays that are not what was sent.
+    failures: f64,
     closed: f64,
     /// Arrays that are closed and yet not what was sent.
     false_closed: f64,
@@ -98,10 +118,13 @@ impl Seen {
 }
 
 /// The threshold of those tried with the lowest bit error rate at one strength of the noise.
-fn best_threshold(decibels: f64, arrays: usize, random: &mut Random) -> Result<f64, Failure> {
+fn best_threshold(decibels: f64, extent: Extent, random: &mut Random) -> Result<f64, Failure> {
     eprintln!("the threshold, at Eb/N0 = {decibels:.2} dB");
-    let results = measure(decibels, &THRESHOLDS, arrays, false, random)?;
-    println!("Eb/N0 = {decibels:.2} dB, {arrays} arrays, L = {RATE_ITERATIONS}:");
+    let results = measure(decibels, &THRESHOLDS, extent, false, random)?;
+    println!(
+        "Eb/N0 = {decibels:.2} dB, {} arrays, L = {RATE_ITERATIONS}:",
+        results[0].arrays
+    );
     println!();
     println!("| T | received wrong | received unsure | bit error rate |");
     println!("|---|---|---|---|");
@@ -123,7 +146,7 @@ fn best_threshold(decibels: f64, arrays: usize, random: &mut Random) -> Result<f
 fn measure(
     decibels: f64,
     thresholds: &[f64],
-    arrays: usize,
+    extent: Extent,
     counted: bool,
     random: &mut Random,
 ) -> Result<Vec<Seen>, Failure> {
@@ -131,7 +154,7 @@ fn measure(
     let deviation = noise_deviation(decibels);
     let mut results = vec![Seen::default(); thresholds.len()];
     let mut sent = vec![0; n * n];
-    for _ in 0..arrays {
+    while extent.goes_on(&results) {
         pugdrel::encode(DEGREE.number(), &random.bits(k * k), &mut sent)?;
         let values: Vec<f64> = sent
             .iter()
@@ -165,6 +188,7 @@ impl Seen {
         self.received_wrong += apart(received) - unsure(received);
         self.unsure += unsure(&cells);
         self.wrong += apart(&cells) - unsure(&cells);
+        self.failures += f64::from(cells != sent);
         self.closed += f64::from(report.closed);
         self.false_closed += f64::from(report.closed && cells != sent);
         Ok(())
@@ -221,31 +245,31 @@ fn noise_deviation(decibels: f64) -> f64 {
 
 /// Where the bit error rate of curve `which` falls to the target: between two points on a straight line in the logarithm.
 fn crossing(points: &[Point], which: usize) -> Option<f64> {
-    let pairs = points.windows(2).find_map(|pair| {
+    points.windows(2).find_map(|pair| {
         let [before, after] = [0, 1].map(|at: usize| pair[at].results[which].rate());
         let falls = before > TARGET && after <= TARGET && after > 0.0;
         falls.then(|| {
             let part = (before / TARGET).ln() / (before / after).ln();
             pair[0].decibels + part * (pair[1].decibels - pair[0].decibels)
         })
-    });
-    pairs
+    })
 }
 
 fn print_rates(points: &[Point], best: f64) {
     println!("Bits wrong after decoding with L = {RATE_ITERATIONS}, T = 0 and T = {best:.2}:");
     println!();
     println!(
-        "| Eb/N0, dB | Es/N0, dB | received wrong, T = 0 | bit error rate, T = 0 | bit error rate, T = {best:.2} \
+        "| Eb/N0, dB | Es/N0, dB | arrays | received wrong, T = 0 | bit error rate, T = 0 | bit error rate, T = {best:.2} \
          | closed, T = 0 | closed, T = {best:.2} | closed and wrong, both |"
     );
-    println!("|---|---|---|---|---|---|---|---|");
+    println!("|{}", "---|".repeat(9));
     for point in points {
         let [hard, marked] = [&point.results[0], &point.results[1]];
         println!(
-            "| {:.2} | {:.2} | {:.2}% | {:.2e} | {:.2e} | {:.1}% | {:.1}% | {} of {} |",
+            "| {:.2} | {:.2} | {} | {:.2}% | {:.2e} | {:.2e} | {:.1}% | {:.1}% | {} of {} |",
             point.decibels,
             sent_decibels(point.decibels),
+            hard.arrays,
             100.0 * hard.received_wrong / hard.bits,
             hard.rate(),
             marked.rate(),
