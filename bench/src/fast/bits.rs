@@ -28,10 +28,11 @@ pub fn unpack(ones: u64, erased: u64, cells: &mut [u8]) {
 
 /// Bit i of the byte, alone in byte i.
 fn spread(byte: u8) -> u64 {
-    // Bit i is kept in copy i of the byte, and then brought to the lowest place of it: adding 127 to what is left
-    // carries into the highest bit exactly if it is not zero.
+    // Bit i is kept in copy i of the byte. Adding 127 to seven bits carries into the eighth exactly if they are not all
+    // zero, so that the highest bit of each byte then says whether its bit was kept.
     let kept = u64::from(byte).wrapping_mul(LOW) & 0x8040_2010_0804_0201;
-    ((kept & !(LOW << 7)) + (LOW * 0x7F) | kept) >> 7 & LOW
+    let not_zero = ((kept & !(LOW << 7)) + LOW * 0x7F) | kept;
+    not_zero >> 7 & LOW
 }
 
 /// Bit j of word i becomes bit i of word j, for i and j below n, a power of two. Blocks off the diagonal change places,
