@@ -96,26 +96,23 @@ fn within_condition(random: &mut Random) -> Result<Call, Failure> {
 
 /// The fast decoder is a third opinion on a decoding that is taken.
 fn compare_with_fast(fast: &[Decoder; 2], call: &Call, outcome: &Outcome) -> Result<(), Failure> {
-    let degree = Degree::ALL.into_iter().zip(fast);
-    let decoder = degree.filter(|(degree, _)| degree.number() == call.degree);
     if call.entry != Entry::Decode || outcome.refusal != 0 {
         return Ok(());
     }
-    for (_, decoder) in decoder {
-        for effort in [Effort::Counted, Effort::Needed] {
-            let mut cells = vec![0; call.output.len()];
-            let report = decoder.decode(
-                effort,
-                call.iterations,
-                &call.input,
-                &call.filling,
-                &mut cells,
-            );
-            let numbers = [report.count, report.erasures, u64::from(report.closed)];
-            if cells != outcome.after.output || numbers[..] != outcome.after.report {
-                println!("{call}");
-                return Err(format!("the fast decoder ({effort:?}) differs").into());
-            }
+    let decoder = &fast[usize::from(call.degree == Degree::Six.number())];
+    for effort in [Effort::Counted, Effort::Needed] {
+        let mut cells = vec![0; call.output.len()];
+        let report = decoder.decode(
+            effort,
+            call.iterations,
+            &call.input,
+            &call.filling,
+            &mut cells,
+        );
+        let numbers = [report.count, report.erasures, u64::from(report.closed)];
+        if cells != outcome.after.output || numbers[..] != outcome.after.report {
+            println!("{call}");
+            return Err(format!("the fast decoder ({effort:?}) differs").into());
         }
     }
     Ok(())
@@ -146,13 +143,16 @@ fn differences<T: PartialEq + std::fmt::Debug>(name: &str, library: &[T], plain:
     lines.collect()
 }
 
-/// How many calls of each entry were made, by refusal number.
+/// What a run went through, so that a reader sees what it did not.
 #[derive(Default)]
 struct Tally {
+    /// Calls of each entry by refusal number.
     calls: [[u64; 5]; Entry::ALL.len()],
+    /// Of the decodings that were taken: those that ended closed, the sum of their counts, and what that would be if no
+    /// line had more or less than the two decodings that it starts with.
     closed: u64,
     count: u64,
-    least_count: u64,
+    two_a_line: u64,
 }
 
 impl Tally {
@@ -164,7 +164,7 @@ impl Tally {
             let lines = call.filling.len() as u64;
             self.closed += outcome.after.report[2];
             self.count += outcome.after.report[0];
-            self.least_count += 2 * lines;
+            self.two_a_line += 2 * lines;
         }
     }
 
@@ -178,7 +178,7 @@ impl Tally {
         let [taken, ..] = self.calls[0];
         println!(
             "Of {taken} decodings, {} closed; counts sum to {}, where 2 a line would be {}.",
-            self.closed, self.count, self.least_count
+            self.closed, self.count, self.two_a_line
         );
     }
 }

@@ -29,13 +29,13 @@ const THRESHOLDS: [f64; 7] = [0.04, 0.08, 0.12, 0.16, 0.20, 0.24, 0.28];
 
 pub fn simulate(mut arguments: Arguments) -> Result<(), Failure> {
     let extent = Extent {
-        arrays: arguments.option("arrays", 10_000)?,
+        arrays: arguments.option("arrays", 6000)?,
         failures: arguments.option("failures", 100)?,
     };
     let seed: u64 = arguments.option("seed", 1)?;
-    let from: f64 = arguments.option("from", 2.5)?;
-    let to: f64 = arguments.option("to", 4.5)?;
-    let step: f64 = arguments.option("step", 0.25)?;
+    let from: f64 = arguments.option("from", 2.75)?;
+    let to: f64 = arguments.option("to", 4.25)?;
+    let step: f64 = arguments.option("step", 0.125)?;
     let probe: f64 = arguments.option("probe", 3.25)?;
     let plots: PathBuf = arguments.option("plots", default_plots())?;
     arguments.end()?;
@@ -51,7 +51,7 @@ pub fn simulate(mut arguments: Arguments) -> Result<(), Failure> {
     let mut points = Vec::new();
     for at in 0..=count {
         let decibels = from + at as f64 * step;
-        eprintln!("Eb/N0 = {decibels:.2} dB");
+        eprintln!("Eb/N0 = {decibels:.3} dB");
         points.push(Point {
             decibels,
             results: measure(decibels, &thresholds, extent, true, &mut random)?,
@@ -266,7 +266,7 @@ fn print_rates(points: &[Point], best: f64) {
     for point in points {
         let [hard, marked] = [&point.results[0], &point.results[1]];
         println!(
-            "| {:.2} | {:.2} | {} | {:.2}% | {:.2e} | {:.2e} | {:.1}% | {:.1}% | {} of {} |",
+            "| {:.3} | {:.2} | {} | {:.2}% | {:.2e} | {:.2e} | {:.1}% | {:.1}% | {} of {} |",
             point.decibels,
             sent_decibels(point.decibels),
             hard.arrays,
@@ -304,7 +304,7 @@ fn print_counts(points: &[Point], best: f64) {
             texts.join(" | ")
         };
         println!(
-            "| {:.2} | {} | {} |",
+            "| {:.3} | {} | {} |",
             point.decibels,
             by_line(|seen| seen.decodings),
             by_line(|seen| seen.decodings_to_closed)

@@ -252,16 +252,20 @@ fn curve(places: &[(f64, f64)], number: usize) -> String {
 /// Shapes differ too, for print without colour.
 fn marker((x, y): (f64, f64), number: usize) -> String {
     let fill = colour(number);
-    match number % 3 {
+    match number % 4 {
         0 => format!(r#"<circle cx="{x:.1}" cy="{y:.1}" r="3.6" fill="{fill}"/>"#),
         1 => format!(
             r#"<rect x="{:.1}" y="{:.1}" width="6.8" height="6.8" fill="{fill}"/>"#,
             x - 3.4,
             y - 3.4
         ),
-        _ => format!(
+        2 => format!(
             r#"<path d="M{x:.1} {:.1}l4.2 7.4h-8.4z" fill="{fill}"/>"#,
             y - 4.6
+        ),
+        _ => format!(
+            r#"<path d="M{x:.1} {:.1}l4.4 4.4l-4.4 4.4l-4.4 -4.4z" fill="{fill}"/>"#,
+            y - 4.4
         ),
     }
 }

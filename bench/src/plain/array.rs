@@ -1,6 +1,7 @@
 //! "The array": encoding, taking the message out, the plain decoding, closed.
 
-use super::{Code, erasures};
+use super::line::known_differences;
+use super::{Code, TOO_MANY, erasures};
 
 /// What a decoding of an array answers with.
 #[derive(Clone, Copy, Debug, Default, PartialEq, Eq)]
@@ -111,8 +112,9 @@ impl Code {
     /// The condition of demand 3: in each row, twice the wrong known cells plus the unsure ones is below 6.
     pub fn meets_row_condition(&self, sent: &[u8], received: &[u8]) -> bool {
         let n = self.n();
-        received.chunks(n).zip(sent.chunks(n)).all(|(row, sent)| {
-            2 * super::line::known_differences(row, sent) + erasures(row) < super::TOO_MANY
-        })
+        received
+            .chunks(n)
+            .zip(sent.chunks(n))
+            .all(|(row, sent)| 2 * known_differences(row, sent) + erasures(row) < TOO_MANY)
     }
 }
