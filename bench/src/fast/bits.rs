@@ -35,31 +35,33 @@ fn spread(byte: u8) -> u64 {
     not_zero >> 7 & LOW
 }
 
-/// Bit j of word i becomes bit i of word j, for i and j below n, a power of two. Blocks off the diagonal change places,
-/// half the size at each step.
+/// Bit j of word i becomes bit i of word j, for i and j below n, which is 16 or 64.
 pub fn transpose(square: &mut [u64; 64], n: usize) {
-    let mut size = n / 2;
-    let mut low = (1u64 << size) - 1;
-    while size > 0 {
-        // In each group of 2 * size bits, the lower half.
-        let mask = repeated(low, 2 * size);
-        let mut block = 0;
-        while block < n {
-            for row in block..block + size {
-                let moved = (square[row] >> size ^ square[row + size]) & mask;
-                square[row] ^= moved << size;
-                square[row + size] ^= moved;
-            }
-            block += 2 * size;
-        }
-        size /= 2;
-        low = (1u64 << size) - 1;
+    // Each step with its own numbers, so that all of them are known when it is compiled.
+    if n > 16 {
+        exchange::<32>(square);
+        exchange::<16>(square);
     }
+    let square = &mut square[..n];
+    exchange::<8>(square);
+    exchange::<4>(square);
+    exchange::<2>(square);
+    exchange::<1>(square);
 }
 
-/// A group of `width` bits over and over.
-fn repeated(group: u64, width: usize) -> u64 {
-    (0..64 / width).fold(0, |word, at| word | group << (at * width))
+/// In each block of twice the size along the diagonal, the two quarters off it change places.
+#[inline(always)]
+fn exchange<const SIZE: usize>(square: &mut [u64]) {
+    // In each group of twice the size, the lower half.
+    let mask = u64::MAX / ((1 << SIZE) + 1);
+    for block in square.chunks_exact_mut(2 * SIZE) {
+        let (upper, lower) = block.split_at_mut(SIZE);
+        for (upper, lower) in upper.iter_mut().zip(lower) {
+            let moved = (*upper >> SIZE ^ *lower) & mask;
+            *upper ^= moved << SIZE;
+            *lower ^= moved;
+        }
+    }
 }
 
 #[cfg(test)]
