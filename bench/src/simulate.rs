@@ -3,6 +3,8 @@
 //! As in source document 000, a bit x is sent as 1 or -1, noise is added, and a value between -T and T is marked unsure;
 //! T = 0 marks none. Two things are seen: how many bits are wrong after decoding, and how many decodings that takes.
 
+mod capacity;
+
 use std::fs;
 use std::path::{Path, PathBuf};
 
@@ -283,8 +285,9 @@ fn print_rates(points: &[Point], best: f64) {
     if let (Some(hard), Some(marked)) = (crossing(points, 0), crossing(points, 1)) {
         println!(
             "A bit error rate of {TARGET:.0e} is reached at {hard:.2} dB without the mark and at {marked:.2} dB with it: \
-             a gain of {:.2} dB.",
-            hard - marked
+             a gain of {:.2} dB. In capacity, the mark gains {:.2} dB at this rate.",
+            hard - marked,
+            capacity::best_gain(code_rate())
         );
         println!();
     }
