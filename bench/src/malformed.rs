@@ -7,10 +7,11 @@ use std::time::Duration;
 
 use crate::arguments::{Arguments, Failure};
 use crate::damage;
-use crate::plain::{Code, Degree, text};
+use crate::plain::{Code, Degree, UNSURE, text};
 use crate::random::Random;
 
 /// An input and what it is called in the table.
+#[derive(Clone)]
 struct Case {
     name: String,
     input: Vec<u8>,
@@ -83,14 +84,49 @@ fn disagreement(case: &Case, printed: &[u8], expected: &[u8]) -> String {
 }
 
 fn cases(random: &mut Random) -> Vec<Case> {
-    let mut cases = Vec::new();
-    let mut add = |name: &str, input: &[u8]| {
-        cases.push(Case {
-            name: name.to_string(),
-            input: input.to_vec(),
-        });
-    };
-    let first_lines: [(&str, &[u8]); 18] = [
+    let mut cases = first_lines();
+    for degree in Degree::ALL {
+        let zeros = text::sheet_input(degree, &vec![0; degree.n() * degree.n()]);
+        let named = |case: Case| Case {
+            name: format!("degree {}: {}", degree.number(), case.name),
+            input: case.input,
+        };
+        let of_degree = [
+            good(degree, &zeros, random),
+            wrong_lengths(degree.n(), &zeros),
+            wrong_newlines(degree.n(), &zeros),
+            other_characters(degree.n(), &zeros),
+        ];
+        cases.extend(of_degree.into_iter().flatten().map(named));
+    }
+    cases.push(case("a megabyte of NUL", &[0; MEGABYTE]));
+    cases.push(case("a megabyte of newlines", &[b'\n'; MEGABYTE]));
+    cases.extend((1..=40).map(|number| {
+        let length = random.below(300);
+        case(&format!("random bytes {number}"), &random.bytes(length))
+    }));
+    cases
+}
+
+const MEGABYTE: usize = 1 << 20;
+
+fn case(name: &str, input: &[u8]) -> Case {
+    Case {
+        name: name.to_string(),
+        input: input.to_vec(),
+    }
+}
+
+/// The text with one byte replaced.
+fn with(text: &[u8], place: usize, byte: u8) -> Vec<u8> {
+    let mut text = text.to_vec();
+    text[place] = byte;
+    text
+}
+
+/// Inputs that are, or end in, a first line; all but two of them are refused as 1.
+fn first_lines() -> Vec<Case> {
+    let lines: [(&str, &[u8]); 18] = [
         ("nothing", b""),
         ("`4` without a newline", b"4"),
         ("`6` without a newline", b"6"),
@@ -110,89 +146,84 @@ fn cases(random: &mut Random) -> Vec<Case> {
         ("NUL", b"\0"),
         ("`4` and NUL", b"4\0\n"),
     ];
-    for (name, input) in first_lines {
-        add(name, input);
-    }
-    for degree in Degree::ALL {
-        let (code, n) = (Code::of(degree), degree.n());
-        let named = |what: &str| format!("degree {}: {what}", degree.number());
-        let zeros = text::sheet_input(degree, &vec![0; n * n]);
-        let mut all_unsure = zeros.clone();
-        all_unsure[2..].iter_mut().for_each(|byte| {
-            if *byte == b'0' {
-                *byte = b'?';
-            }
-        });
-        add(&named("zeros"), &zeros);
-        add(&named("all unsure"), &all_unsure);
-        for number in 1..=12 {
-            let good = text::sheet_input(degree, &damage::received(code, random));
-            add(&named(&format!("damaged array {number}")), &good);
-        }
-        let length = zeros.len();
-        add(&named("one byte short"), &zeros[..length - 1]);
-        add(&named("one line short"), &zeros[..length - n - 1]);
-        add(&named("one byte long"), &[&zeros[..], b"0"].concat());
-        add(&named("one newline more"), &[&zeros[..], b"\n"].concat());
-        add(&named("twice"), &[&zeros[..], &zeros[2..]].concat());
-        add(&named("cut in the first line"), &zeros[..2 + n / 2]);
+    lines.map(|(name, input)| case(name, input)).to_vec()
+}
 
-        let changed = |place: usize, byte: u8| {
-            let mut input = zeros.clone();
-            input[place] = byte;
-            input
-        };
-        let (first_newline, last) = (2 + n, length - 1);
-        add(&named("a newline for the first cell"), &changed(2, b'\n'));
-        add(&named("a newline for a cell"), &changed(2 + n / 2, b'\n'));
-        add(
-            &named("a cell for a newline"),
-            &changed(first_newline, b'0'),
-        );
-        add(&named("a cell for the last newline"), &changed(last, b'0'));
-        add(&named("CR for a newline"), &changed(first_newline, b'\r'));
-        add(&named("NUL for a newline"), &changed(first_newline, 0));
-        let mut swapped = zeros.clone();
-        swapped.swap(first_newline, first_newline + 1);
-        add(&named("a newline one cell late"), &swapped);
-        let other_characters: [(&str, u8); 9] = [
-            ("`2`", b'2'),
-            ("a space", b' '),
-            ("`x`", b'x'),
-            ("NUL", 0),
-            ("CR", b'\r'),
-            ("TAB", b'\t'),
-            ("`/`", b'/'),
-            ("`@`", b'@'),
-            ("byte 255", 255),
-        ];
-        for (name, byte) in other_characters {
-            add(&named(&format!("{name} for a cell")), &changed(3 + n, byte));
-            add(
-                &named(&format!("{name} for the last cell")),
-                &changed(last - 1, byte),
-            );
-        }
-        let mut both = changed(3, b'x');
-        both[first_newline] = b'0';
-        add(&named("another character, and a newline missing"), &both);
-        let crlf = String::from_utf8_lossy(&zeros[2..]).replace('\n', "\r\n");
-        add(
-            &named("CR LF after every row"),
-            &[&zeros[..2], crlf.as_bytes()].concat(),
-        );
-        let first = if degree == Degree::Four { b'6' } else { b'4' };
-        add(&named("the other degree's first line"), &changed(0, first));
-        let huge = [&zeros[..], &vec![b'0'; 1 << 20]].concat();
-        add(&named("a megabyte more"), &huge);
-        let rows: Vec<u8> = zeros[2..].repeat(1 + (1 << 20) / length);
-        add(&named("a megabyte of rows"), &[&zeros[..2], &rows].concat());
-    }
-    add("a megabyte of NUL", &vec![0; 1 << 20]);
-    add("a megabyte of newlines", &vec![b'\n'; 1 << 20]);
-    for number in 1..=40 {
-        let length = random.below(300);
-        add(&format!("random bytes {number}"), &random.bytes(length));
-    }
+fn good(degree: Degree, zeros: &[u8], random: &mut Random) -> Vec<Case> {
+    let unsure = text::sheet_input(degree, &vec![UNSURE; degree.n() * degree.n()]);
+    let mut cases = vec![case("zeros", zeros), case("all unsure", &unsure)];
+    cases.extend((1..=12).map(|number| {
+        let received = damage::received(Code::of(degree), random);
+        let input = text::sheet_input(degree, &received);
+        case(&format!("damaged array {number}"), &input)
+    }));
     cases
+}
+
+fn wrong_lengths(n: usize, zeros: &[u8]) -> Vec<Case> {
+    let length = zeros.len();
+    let (first_line, rows) = zeros.split_at(2);
+    let other_degree = if first_line == b"4\n" { b'6' } else { b'4' };
+    let many_rows = rows.repeat(1 + MEGABYTE / length);
+    vec![
+        case("one byte short", &zeros[..length - 1]),
+        case("one line short", &zeros[..length - n - 1]),
+        case("cut in the first row", &zeros[..2 + n / 2]),
+        case("one byte long", &[zeros, b"0"].concat()),
+        case("one newline more", &[zeros, b"\n"].concat()),
+        case("rows twice", &[zeros, rows].concat()),
+        case("a megabyte more", &[zeros, &[b'0'; MEGABYTE]].concat()),
+        case("a megabyte of rows", &[first_line, &many_rows].concat()),
+        case(
+            "the other degree's first line",
+            &with(zeros, 0, other_degree),
+        ),
+    ]
+}
+
+fn wrong_newlines(n: usize, zeros: &[u8]) -> Vec<Case> {
+    let (first_newline, last) = (2 + n, zeros.len() - 1);
+    let mut late = zeros.to_vec();
+    late.swap(first_newline, first_newline + 1);
+    let and_another = with(&with(zeros, first_newline, b'0'), 3, b'x');
+    let crlf = String::from_utf8_lossy(&zeros[2..]).replace('\n', "\r\n");
+    vec![
+        case("a newline for the first cell", &with(zeros, 2, b'\n')),
+        case("a newline for a cell", &with(zeros, 2 + n / 2, b'\n')),
+        case("a cell for a newline", &with(zeros, first_newline, b'0')),
+        case("a cell for the last newline", &with(zeros, last, b'0')),
+        case("CR for a newline", &with(zeros, first_newline, b'\r')),
+        case("NUL for a newline", &with(zeros, first_newline, 0)),
+        case("a newline one cell late", &late),
+        case("a newline missing, and another character", &and_another),
+        case(
+            "CR LF after every row",
+            &[&zeros[..2], crlf.as_bytes()].concat(),
+        ),
+    ]
+}
+
+fn other_characters(n: usize, zeros: &[u8]) -> Vec<Case> {
+    let characters = [
+        ("`2`", b'2'),
+        ("a space", b' '),
+        ("`x`", b'x'),
+        ("NUL", 0),
+        ("CR", b'\r'),
+        ("TAB", b'\t'),
+        ("`/`", b'/'),
+        ("`@`", b'@'),
+        ("byte 255", 255),
+    ];
+    let (a_cell, last_cell) = (3 + n, zeros.len() - 2);
+    let cases = characters.into_iter().flat_map(|(name, byte)| {
+        [
+            case(&format!("{name} for a cell"), &with(zeros, a_cell, byte)),
+            case(
+                &format!("{name} for the last cell"),
+                &with(zeros, last_cell, byte),
+            ),
+        ]
+    });
+    cases.collect()
 }

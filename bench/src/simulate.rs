@@ -4,16 +4,17 @@
 //! T = 0 marks none. Two things are seen: how many bits are wrong after decoding, and how many decodings that takes.
 
 mod capacity;
+mod tables;
 
 use std::fs;
-use std::path::{Path, PathBuf};
+use std::path::PathBuf;
 
 use crate::arguments::{Arguments, Failure};
 use crate::plain::{Degree, UNSURE};
 use crate::pugdrel::{self, Refusal};
 use crate::random::Random;
-use crate::svg::{Axis, Plot, Series};
 use crate::timing::default_plots;
+use tables::{count_plot, print_counts, print_rates, rate_plot};
 
 const DEGREE: Degree = Degree::Six;
 
@@ -22,9 +23,6 @@ const RATE_ITERATIONS: u64 = 20;
 
 /// "20 half-iterations": with these the decodings are counted.
 const COUNT_ITERATIONS: u64 = 10;
-
-/// The bit error rate at which the paper reads off its noise thresholds.
-const TARGET: f64 = 1e-4;
 
 /// Thresholds of which the best is taken.
 const THRESHOLDS: [f64; 7] = [0.04, 0.08, 0.12, 0.16, 0.20, 0.24, 0.28];
@@ -61,8 +59,15 @@ pub fn simulate(mut arguments: Arguments) -> Result<(), Failure> {
     }
     print_rates(&points, best);
     print_counts(&points, best);
-    plot_rates(&points, best, &plots)?;
-    plot_counts(&points, best, &plots)
+    fs::write(
+        plots.join("bit-error-rate.svg"),
+        rate_plot(&points, best).to_svg(),
+    )?;
+    fs::write(
+        plots.join("decodings.svg"),
+        count_plot(&points, best).to_svg(),
+    )?;
+    Ok(())
 }
 
 /// How long a point is measured: until every threshold has failed on so many arrays, or until so many were sent.
@@ -245,137 +250,6 @@ fn noise_deviation(decibels: f64) -> f64 {
     (0.5 / 10f64.powf(sent_decibels(decibels) / 10.0)).sqrt()
 }
 
-/// Where the bit error rate of curve `which` falls to the target: between two points on a straight line in the logarithm.
-fn crossing(points: &[Point], which: usize) -> Option<f64> {
-    points.windows(2).find_map(|pair| {
-        let [before, after] = [0, 1].map(|at: usize| pair[at].results[which].rate());
-        let falls = before > TARGET && after <= TARGET && after > 0.0;
-        falls.then(|| {
-            let part = (before / TARGET).ln() / (before / after).ln();
-            pair[0].decibels + part * (pair[1].decibels - pair[0].decibels)
-        })
-    })
-}
-
-fn print_rates(points: &[Point], best: f64) {
-    println!("Bits wrong after decoding with L = {RATE_ITERATIONS}, T = 0 and T = {best:.2}:");
-    println!();
-    println!(
-        "| Eb/N0, dB | Es/N0, dB | arrays | received wrong, T = 0 | bit error rate, T = 0 | bit error rate, T = {best:.2} \
-         | closed, T = 0 | closed, T = {best:.2} | closed and wrong, both |"
-    );
-    println!("|{}", "---|".repeat(9));
-    for point in points {
-        let [hard, marked] = [&point.results[0], &point.results[1]];
-        println!(
-            "| {:.3} | {:.2} | {} | {:.2}% | {:.2e} | {:.2e} | {:.1}% | {:.1}% | {} of {} |",
-            point.decibels,
-            sent_decibels(point.decibels),
-            hard.arrays,
-            100.0 * hard.received_wrong / hard.bits,
-            hard.rate(),
-            marked.rate(),
-            100.0 * hard.closed / hard.arrays,
-            100.0 * marked.closed / marked.arrays,
-            hard.false_closed + marked.false_closed,
-            hard.closed + marked.closed
-        );
-    }
-    println!();
-    if let (Some(hard), Some(marked)) = (crossing(points, 0), crossing(points, 1)) {
-        println!(
-            "A bit error rate of {TARGET:.0e} is reached at {hard:.2} dB without the mark and at {marked:.2} dB with it: \
-             a gain of {:.2} dB. In capacity, the mark gains {:.2} dB at this rate.",
-            hard - marked,
-            capacity::best_gain(code_rate())
-        );
-        println!();
-    }
-}
-
-fn print_counts(points: &[Point], best: f64) {
-    println!("Decodings for each row or column in {COUNT_ITERATIONS} iterations:");
-    println!();
-    println!(
-        "| Eb/N0, dB | all, T = 0 | all, T = {best:.2} | to the first closed, T = 0 | to the first closed, T = {best:.2} |"
-    );
-    println!("|---|---|---|---|---|");
-    for point in points {
-        let by_line = |sum: fn(&Seen) -> f64| {
-            let numbers = point.results.iter().map(|seen| sum(seen) / seen.lines());
-            let texts: Vec<String> = numbers.map(|number| format!("{number:.2}")).collect();
-            texts.join(" | ")
-        };
-        println!(
-            "| {:.3} | {} | {} |",
-            point.decibels,
-            by_line(|seen| seen.decodings),
-            by_line(|seen| seen.decodings_to_closed)
-        );
-    }
-    println!();
-}
-
-fn plot_rates(points: &[Point], best: f64, plots: &Path) -> Result<(), Failure> {
-    let curve = |name: String, value: &dyn Fn(&Point) -> f64| Series {
-        name,
-        points: points
-            .iter()
-            .map(|point| (point.decibels, value(point)))
-            .collect(),
-    };
-    let plot = Plot {
-        title: format!("Bit error rate, 64 by 64, L = {RATE_ITERATIONS}"),
-        x: Axis::linear("Eb/N0, dB"),
-        y: Axis::log("bit error rate"),
-        series: vec![
-            curve("received, T = 0".to_string(), &|point| {
-                point.results[0].received_wrong / point.results[0].bits
-            }),
-            curve("decoded, T = 0".to_string(), &|point| {
-                point.results[0].rate()
-            }),
-            curve(format!("decoded, T = {best:.2}"), &|point| {
-                point.results[1].rate()
-            }),
-        ],
-    };
-    fs::write(plots.join("bit-error-rate.svg"), plot.to_svg())?;
-    Ok(())
-}
-
-fn plot_counts(points: &[Point], best: f64, plots: &Path) -> Result<(), Failure> {
-    let curve = |name: String, which: usize, sum: fn(&Seen) -> f64| Series {
-        name,
-        points: points
-            .iter()
-            .map(|point| {
-                let seen = &point.results[which];
-                (point.decibels, sum(seen) / seen.lines())
-            })
-            .collect(),
-    };
-    let plot = Plot {
-        title: format!(
-            "Decodings for each row or column, 64 by 64, at most {COUNT_ITERATIONS} iterations"
-        ),
-        x: Axis::linear("Eb/N0, dB"),
-        y: Axis::log("decodings"),
-        series: vec![
-            curve("all, T = 0".to_string(), 0, |seen| seen.decodings),
-            curve(format!("all, T = {best:.2}"), 1, |seen| seen.decodings),
-            curve("to closed, T = 0".to_string(), 0, |seen| {
-                seen.decodings_to_closed
-            }),
-            curve(format!("to closed, T = {best:.2}"), 1, |seen| {
-                seen.decodings_to_closed
-            }),
-        ],
-    };
-    fs::write(plots.join("decodings.svg"), plot.to_svg())?;
-    Ok(())
-}
-
 #[cfg(test)]
 mod tests {
     use super::*;
@@ -394,20 +268,5 @@ mod tests {
         // Es/N0 is Eb/N0 times 51² / 64², and the variance at Es/N0 = 1 is 1/2.
         assert!((sent_decibels(0.0) + 1.972).abs() < 0.001);
         assert!((noise_deviation(1.972).powi(2) - 0.5).abs() < 0.001);
-    }
-
-    #[test]
-    fn the_crossing_is_on_the_line_between_two_points() {
-        let point = |decibels, wrong| Point {
-            decibels,
-            results: vec![Seen {
-                bits: 1e6,
-                wrong,
-                ..Seen::default()
-            }],
-        };
-        let points = [point(4.0, 1e4), point(4.5, 1e3), point(5.0, 10.0)];
-        let crossing = crossing(&points, 0).unwrap();
-        assert!((crossing - 4.75).abs() < 1e-9);
     }
 }
