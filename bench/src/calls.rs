@@ -1,0 +1,235 @@
+//! Random calls: good ones, and ones with several faults at once.
+
+use crate::call::{Call, Entry};
+use crate::damage;
+use crate::plain::entries::SHEET_OUTPUT;
+use crate::plain::{Code, Degree, text};
+use crate::random::Random;
+
+/// Every entry, the ones with more to go wrong more often.
+const ENTRIES: [Entry; 20] = [
+    Entry::Decode,
+    Entry::Decode,
+    Entry::Decode,
+    Entry::Decode,
+    Entry::Decode,
+    Entry::Decode,
+    Entry::Encode,
+    Entry::Extract,
+    Entry::Row,
+    Entry::BoundedDistance,
+    Entry::BoundedDistance,
+    Entry::DecodeLine,
+    Entry::DecodeLine,
+    Entry::DecodeLine,
+    Entry::Messages,
+    Entry::Messages,
+    Entry::Messages,
+    Entry::Messages,
+    Entry::Sheet,
+    Entry::Sheet,
+];
+
+/// A call of a random entry; one in four has faults.
+pub fn random_call(random: &mut Random) -> Call {
+    let entry = random.pick(&ENTRIES);
+    let mut call = good_call(entry, random);
+    if random.one_in(4) {
+        for _ in 0..random.between(1, 3) {
+            add_fault(&mut call, random);
+        }
+    }
+    call
+}
+
+/// A call that is taken. What is only written holds any bytes.
+fn good_call(entry: Entry, random: &mut Random) -> Call {
+    let degree = random.pick(&Degree::ALL);
+    let (code, n, k) = (Code::of(degree), degree.n(), degree.k());
+    let mut call = Call::new(entry, degree.number());
+    match entry {
+        Entry::Decode => {
+            call.iterations = iterations(degree, random);
+            call.input = damage::received(code, random);
+            call.filling = damage::filling(2 * call.iterations as usize * n, random);
+            call.output = random.bytes(n * n);
+            call.report = random.words(3);
+        }
+        Entry::Encode => {
+            call.input = random.bits(k * k);
+            call.output = random.bytes(n * n);
+        }
+        Entry::Extract => {
+            call.input = damage::received(code, random);
+            call.output = random.bytes(k * k);
+        }
+        Entry::Row => {
+            call.input = damage::received(code, random);
+            call.index = random.below(n);
+            call.report = random.words(2);
+        }
+        Entry::BoundedDistance => {
+            call.output = word(code, random);
+            call.report = random.words(1);
+        }
+        Entry::DecodeLine => {
+            call.output = damage::line(code, random);
+            call.filling = damage::filling(1, random);
+            call.report = random.words(1);
+        }
+        Entry::Messages => {
+            (call.input, call.channel) = damage::line_pair(code, random);
+            call.filling = damage::filling(1, random);
+            call.output = random.bytes(n);
+            call.report = random.words(1);
+        }
+        Entry::Sheet => {
+            call.degree = 0;
+            call.input = sheet_text(degree, random);
+            call.output = random.bytes(SHEET_OUTPUT);
+            call.report = random.words(1);
+        }
+    }
+    call
+}
+
+/// 1 to 20, mostly few: the plain decoding takes its time.
+fn iterations(degree: Degree, random: &mut Random) -> u64 {
+    let usual = match degree {
+        Degree::Four => 8,
+        Degree::Six => 4,
+    };
+    let most = if random.one_in(8) { 20 } else { usual };
+    random.between(1, most) as u64
+}
+
+/// A full word: a codeword with up to 4 cells flipped, or any.
+fn word(code: &Code, random: &mut Random) -> Vec<u8> {
+    let mut word = random.bits(code.n());
+    if random.one_in(8) {
+        return word;
+    }
+    code.encode_line(&mut word);
+    let wrong = random.below(5);
+    damage::hit(&word, wrong, 0, random)
+}
+
+/// A text for `sheet`, in one of three cases a broken one.
+fn sheet_text(degree: Degree, random: &mut Random) -> Vec<u8> {
+    let mut input = text::sheet_input(degree, &damage::received(Code::of(degree), random));
+    if random.one_in(3) {
+        for _ in 0..random.between(1, 3) {
+            break_text(&mut input, random);
+        }
+    }
+    input
+}
+
+/// Changes a text in one of the ways that a sender may.
+fn break_text(input: &mut Vec<u8>, random: &mut Random) {
+    let length = input.len();
+    let place = random.below(length + 1);
+    let byte = random.pick(b"01?\n\r 2x4\0\xff");
+    match random.below(8) {
+        0 => input.insert(place, byte),
+        1 if place < length => {
+            input.remove(place);
+        }
+        2 | 3 if place < length => input[place] = byte,
+        4 if length > 0 => input[0] = random.pick(b"45670 \n"),
+        5 => input.truncate(place),
+        6 if length > 1 => input.swap(place.min(length - 2), place.min(length - 2) + 1),
+        _ => input.push(byte),
+    }
+}
+
+/// What can be wrong with a call.
+#[derive(Clone, Copy)]
+enum Fault {
+    Degree,
+    Iterations,
+    Index,
+    InputLength,
+    ChannelLength,
+    FillingLength,
+    OutputLength,
+    ReportLength,
+    InputCell,
+    ChannelCell,
+    /// A fault only where the output is worked on in place: old cells of a slice that is only written are not tested.
+    OutputCell,
+}
+
+/// The faults that a call of this entry can have.
+fn faults_of(entry: Entry) -> &'static [Fault] {
+    use Fault::*;
+    match entry {
+        Entry::Decode => &[
+            Degree,
+            Iterations,
+            InputLength,
+            FillingLength,
+            OutputLength,
+            ReportLength,
+            InputCell,
+            OutputCell,
+        ],
+        Entry::Encode | Entry::Extract => {
+            &[Degree, InputLength, OutputLength, InputCell, OutputCell]
+        }
+        Entry::Row => &[Degree, Index, InputLength, ReportLength, InputCell],
+        Entry::BoundedDistance | Entry::DecodeLine => {
+            &[Degree, OutputLength, ReportLength, OutputCell]
+        }
+        Entry::Messages => &[
+            Degree,
+            InputLength,
+            ChannelLength,
+            OutputLength,
+            ReportLength,
+            InputCell,
+            ChannelCell,
+            OutputCell,
+        ],
+        Entry::Sheet => &[OutputLength, ReportLength, InputLength],
+    }
+}
+
+fn add_fault(call: &mut Call, random: &mut Random) {
+    match random.pick(faults_of(call.entry)) {
+        Fault::Degree => call.degree = random.pick(&[0, 3, 5, 7, 8, 64, u64::MAX]),
+        Fault::Iterations => {
+            call.iterations = random.pick(&[0, 21, 22, 1 << 32, 1 << 58, u64::MAX]);
+        }
+        Fault::Index => call.index = random.pick(&[16, 17, 63, 64, 65, 1 << 40, usize::MAX]),
+        Fault::InputLength => resize(&mut call.input, random),
+        Fault::ChannelLength => resize(&mut call.channel, random),
+        Fault::FillingLength => resize(&mut call.filling, random),
+        Fault::OutputLength => resize(&mut call.output, random),
+        Fault::ReportLength => resize(&mut call.report, random),
+        Fault::InputCell => spoil(&mut call.input, random),
+        Fault::ChannelCell => spoil(&mut call.channel, random),
+        Fault::OutputCell => spoil(&mut call.output, random),
+    }
+}
+
+/// A cell that is not 0 or 1: unsure, or none at all.
+fn spoil(cells: &mut [u8], random: &mut Random) {
+    if !cells.is_empty() {
+        let ends = [0, cells.len() - 1, random.below(cells.len())];
+        cells[random.pick(&ends)] = random.pick(&[2, 3, 3, 4, 48, 128, 255]);
+    }
+}
+
+/// Another length: one more or less, none, half, or twice as much.
+fn resize<T: Copy + Default>(cells: &mut Vec<T>, random: &mut Random) {
+    let length = cells.len();
+    let other = match random.below(6) {
+        0 => 0,
+        1 => length / 2,
+        2 => 2 * length,
+        3 => length.saturating_sub(1),
+        _ => length + 1,
+    };
+    cells.resize(other, T::default());
+}

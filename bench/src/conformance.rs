@@ -1,0 +1,224 @@
+//! The commands `conformance` and `replay`: the library beside the plain implementation, call by call.
+
+use std::fs;
+use std::io::{IsTerminal, Write};
+use std::time::{Duration, Instant};
+
+use crate::arguments::{Arguments, Failure};
+use crate::call::{Call, Entry, Outcome, Side};
+use crate::calls::random_call;
+use crate::damage;
+use crate::fast::{Decoder, Effort};
+use crate::plain::Degree;
+use crate::random::Random;
+
+/// Makes random calls on both sides until one differs, and says at the end how many were made of each kind.
+pub fn conformance(mut arguments: Arguments) -> Result<(), Failure> {
+    let seed: u64 = arguments.option("seed", 1)?;
+    let count: u64 = arguments.option("count", 2000)?;
+    arguments.end()?;
+    let mut random = Random::new(seed);
+    let mut tally = Tally::default();
+    let mut progress = Progress::new(count);
+    let fast = Degree::ALL.map(Decoder::new);
+    for done in 0..count {
+        progress.show(done);
+        let call = if random.one_in(20) {
+            within_condition(&mut random)?
+        } else {
+            random_call(&mut random)
+        };
+        if let Some(outcomes) = call.disagreement() {
+            progress.clear();
+            println!("{}", disagreement_text(&call, &outcomes));
+            return Err(format!("call {done} of seed {seed}: a disagreement").into());
+        }
+        let outcome = call.run(Side::Library);
+        compare_with_fast(&fast, &call, &outcome)?;
+        tally.add(&call, &outcome);
+    }
+    progress.clear();
+    tally.print();
+    println!("{count} calls of seed {seed}: all agree");
+    Ok(())
+}
+
+/// Makes one call, from its text in a file, on both sides.
+pub fn replay(mut arguments: Arguments) -> Result<(), Failure> {
+    let file = arguments.word("a file with a call")?;
+    arguments.end()?;
+    let call: Call = fs::read_to_string(&file)?.parse()?;
+    match call.disagreement() {
+        Some(outcomes) => {
+            println!("{}", disagreement_text(&call, &outcomes));
+            Err(format!("{file}: a disagreement").into())
+        }
+        None => {
+            println!(
+                "{file}: both sides agree, with refusal {}",
+                call.run(Side::Library).refusal
+            );
+            Ok(())
+        }
+    }
+}
+
+/// Demand 3's last sentence, by the library alone: an array that it encodes, damaged within the row condition, must come
+/// out as sent, closed, and with its message. The decoding is handed on, to be compared with the plain one as well.
+fn within_condition(random: &mut Random) -> Result<Call, Failure> {
+    let degree = random.pick(&Degree::ALL);
+    let (n, k) = (degree.n(), degree.k());
+    let mut encode = Call::new(Entry::Encode, degree.number());
+    encode.input = random.bits(k * k);
+    encode.output = random.bytes(n * n);
+    let sent = encode.run(Side::Library).after.output;
+
+    let mut decode = Call::new(Entry::Decode, degree.number());
+    decode.iterations = random.between(1, 2) as u64;
+    decode.input = damage::within_condition(&sent, n, random);
+    decode.filling = damage::filling(2 * decode.iterations as usize * n, random);
+    decode.output = random.bytes(n * n);
+    decode.report = random.words(3);
+    let decoded = decode.run(Side::Library).after;
+
+    let mut extract = Call::new(Entry::Extract, degree.number());
+    extract.input.clone_from(&decoded.output);
+    extract.output = random.bytes(k * k);
+    let message = extract.run(Side::Library).after.output;
+
+    let closed = decoded.report[1..] == [0, 1];
+    if decoded.output != sent || !closed || message != encode.input {
+        println!("{encode}\n{decode}\n{extract}");
+        return Err("an array within the row condition did not come out as sent".into());
+    }
+    Ok(decode)
+}
+
+/// The fast decoder is a third opinion on a decoding that is taken.
+fn compare_with_fast(fast: &[Decoder; 2], call: &Call, outcome: &Outcome) -> Result<(), Failure> {
+    if call.entry != Entry::Decode || outcome.refusal != 0 {
+        return Ok(());
+    }
+    let decoder = &fast[usize::from(call.degree == Degree::Six.number())];
+    for effort in [Effort::Counted, Effort::Needed] {
+        let mut cells = vec![0; call.output.len()];
+        let report = decoder.decode(
+            effort,
+            call.iterations,
+            &call.input,
+            &call.filling,
+            &mut cells,
+        );
+        let numbers = [report.count, report.erasures, u64::from(report.closed)];
+        if cells != outcome.after.output || numbers[..] != outcome.after.report {
+            println!("{call}");
+            return Err(format!("the fast decoder ({effort:?}) differs").into());
+        }
+    }
+    Ok(())
+}
+
+/// The call as `replay` takes it, and what each side made of it.
+fn disagreement_text(call: &Call, outcomes: &[Outcome; 2]) -> String {
+    let [library, plain] = outcomes;
+    let mut text = format!("{call}\n# Each line above is input for 'replay'.\n");
+    text += &format!(
+        "# refusal: library {}, plain {}\n",
+        library.refusal, plain.refusal
+    );
+    if library.strayed {
+        text += "# the library wrote beside what it was lent\n";
+    }
+    text += &differences("output", &library.after.output, &plain.after.output);
+    text += &differences("report", &library.after.report, &plain.after.report);
+    text
+}
+
+fn differences<T: PartialEq + std::fmt::Debug>(name: &str, library: &[T], plain: &[T]) -> String {
+    let pairs = || library.iter().zip(plain).enumerate();
+    let apart = pairs().filter(|(_, (library, plain))| library != plain);
+    let lines = apart.map(|(place, (library, plain))| {
+        format!("# {name}[{place}]: library {library:?}, plain {plain:?}\n")
+    });
+    lines.collect()
+}
+
+/// What a run went through, so that a reader sees what it did not.
+#[derive(Default)]
+struct Tally {
+    /// Calls of each entry by refusal number.
+    calls: [[u64; 5]; Entry::ALL.len()],
+    /// Of the decodings that were taken: those that ended closed, the sum of their counts, and what that would be if no
+    /// line had more or less than the two decodings that it starts with.
+    closed: u64,
+    count: u64,
+    two_a_line: u64,
+}
+
+impl Tally {
+    fn add(&mut self, call: &Call, outcome: &Outcome) {
+        let entry = Entry::ALL.iter().position(|&entry| entry == call.entry);
+        let refusal = (outcome.refusal as usize).min(4);
+        self.calls[entry.unwrap_or_default()][refusal] += 1;
+        if call.entry == Entry::Decode && refusal == 0 {
+            let lines = call.filling.len() as u64;
+            self.closed += outcome.after.report[2];
+            self.count += outcome.after.report[0];
+            self.two_a_line += 2 * lines;
+        }
+    }
+
+    fn print(&self) {
+        println!("| entry | taken | refused 1 | refused 2 | refused 3 | refused 4 |");
+        println!("|---|---|---|---|---|---|");
+        for (entry, numbers) in Entry::ALL.iter().zip(&self.calls) {
+            let numbers = numbers.map(|number| number.to_string()).join(" | ");
+            println!("| {} | {numbers} |", entry.name());
+        }
+        let [taken, ..] = self.calls[0];
+        println!(
+            "Of {taken} decodings, {} closed; counts sum to {}, where 2 a line would be {}.",
+            self.closed, self.count, self.two_a_line
+        );
+    }
+}
+
+/// How far a run has come, on standard error: now and then a line, or on a terminal a line that is overwritten.
+struct Progress {
+    all: u64,
+    start: Instant,
+    next: Duration,
+    on_terminal: bool,
+}
+
+impl Progress {
+    fn new(all: u64) -> Progress {
+        Progress {
+            all,
+            start: Instant::now(),
+            next: Duration::from_secs(1),
+            on_terminal: std::io::stderr().is_terminal(),
+        }
+    }
+
+    fn show(&mut self, done: u64) {
+        let passed = self.start.elapsed();
+        if passed < self.next {
+            return;
+        }
+        let (pause, end) = if self.on_terminal {
+            (1, '\r')
+        } else {
+            (10, '\n')
+        };
+        self.next = passed + Duration::from_secs(pause);
+        eprint!("{done} of {} calls agree{end}", self.all);
+        let _ = std::io::stderr().flush();
+    }
+
+    fn clear(&self) {
+        if self.on_terminal {
+            eprint!("\r\x1b[K");
+        }
+    }
+}

@@ -1,0 +1,232 @@
+//! Received arrays, damaged in all kinds of ways, and filling words.
+
+use crate::plain::{Code, TOO_MANY, UNSURE};
+use crate::random::Random;
+
+/// A sent array with this many wrong and this many unsure cells at random places.
+pub fn hit(sent: &[u8], wrong: usize, unsure: usize, random: &mut Random) -> Vec<u8> {
+    let mut received = sent.to_vec();
+    let places = random.places(wrong + unsure, sent.len());
+    let (wrong_places, unsure_places) = places.split_at(wrong.min(places.len()));
+    wrong_places.iter().for_each(|&cell| received[cell] ^= 1);
+    unsure_places
+        .iter()
+        .for_each(|&cell| received[cell] = UNSURE);
+    received
+}
+
+/// A random sent array.
+pub fn sent(code: &Code, random: &mut Random) -> Vec<u8> {
+    let k = code.degree.k();
+    code.encode(&random.bits(k * k))
+}
+
+/// The kinds of damage to an array.
+#[derive(Clone, Copy, Debug)]
+enum Damage {
+    None,
+    FewWrong,
+    ManyWrong,
+    FewUnsure,
+    ManyUnsure,
+    AllUnsure,
+    Mixed,
+    /// Every row has 4 to 7 unsure cells and some wrong ones.
+    CrowdedRows,
+    /// Every column has 4 to 7 unsure cells and some wrong ones.
+    CrowdedColumns,
+    /// In every row, twice the wrong cells plus the unsure ones is below 6.
+    WithinCondition,
+    /// The same with some rows at 6 or just above.
+    AroundCondition,
+    /// Every row lies between the sent codeword and one nearest to it.
+    BetweenCodewords,
+    /// Some rows and columns are lost as a whole.
+    LostLines,
+    /// A square of wrong or unsure cells, the shape that iterative decoding is stuck with.
+    Blob,
+    /// No sent array behind it: any cell is 0, 1 or 2.
+    Noise,
+    /// The same with few unsure cells.
+    KnownNoise,
+}
+
+const DAMAGES: [Damage; 16] = [
+    Damage::None,
+    Damage::FewWrong,
+    Damage::ManyWrong,
+    Damage::FewUnsure,
+    Damage::ManyUnsure,
+    Damage::AllUnsure,
+    Damage::Mixed,
+    Damage::CrowdedRows,
+    Damage::CrowdedColumns,
+    Damage::WithinCondition,
+    Damage::AroundCondition,
+    Damage::BetweenCodewords,
+    Damage::LostLines,
+    Damage::Blob,
+    Damage::Noise,
+    Damage::KnownNoise,
+];
+
+/// A received array with a random kind of damage.
+pub fn received(code: &Code, random: &mut Random) -> Vec<u8> {
+    let sent = sent(code, random);
+    let n = code.n();
+    let all = n * n;
+    match random.pick(&DAMAGES) {
+        Damage::None => sent,
+        Damage::FewWrong => hit(&sent, random.between(1, n / 2), 0, random),
+        Damage::ManyWrong => hit(&sent, random.between(n, 6 * n), 0, random),
+        Damage::FewUnsure => hit(&sent, 0, random.between(1, n), random),
+        Damage::ManyUnsure => hit(&sent, 0, random.between(2 * n, all), random),
+        Damage::AllUnsure => vec![UNSURE; all],
+        Damage::Mixed => hit(&sent, random.below(3 * n), random.below(6 * n), random),
+        Damage::CrowdedRows => crowded(sent, n, random),
+        Damage::CrowdedColumns => transposed(&crowded(transposed(&sent, n), n, random), n),
+        Damage::WithinCondition => within_condition(&sent, n, random),
+        Damage::AroundCondition => by_rows(&sent, n, 3, random),
+        Damage::BetweenCodewords => {
+            let rows = sent.chunks(n);
+            rows.flat_map(|row| between(code, row, random)).collect()
+        }
+        Damage::LostLines => lost_lines(sent, n, random),
+        Damage::Blob => blob(sent, n, random),
+        Damage::Noise => (0..all).map(|_| random.below(3) as u8).collect(),
+        Damage::KnownNoise => {
+            let cells = random.bits(all);
+            hit(&cells, 0, random.below(4 * n), random)
+        }
+    }
+}
+
+/// A line with few or many wrong and unsure cells, preferring the numbers at which the clauses change.
+pub fn line(code: &Code, random: &mut Random) -> Vec<u8> {
+    let n = code.n();
+    if random.one_in(12) {
+        return (0..n).map(|_| random.below(3) as u8).collect();
+    }
+    let mut sent = random.bits(n);
+    code.encode_line(&mut sent);
+    if random.one_in(3) {
+        return between(code, &sent, random);
+    }
+    hit(
+        &sent,
+        random.below(5),
+        random.pick(&[0, 0, 1, 2, 3, 4, 5, 5, 6, 6, 7]),
+        random,
+    )
+}
+
+/// An incoming and a channel line: two received forms of one codeword, mostly near each other, as they are in an array.
+pub fn line_pair(code: &Code, random: &mut Random) -> (Vec<u8>, Vec<u8>) {
+    let channel = line(code, random);
+    if random.one_in(4) {
+        return (line(code, random), channel);
+    }
+    let mut incoming = channel.clone();
+    let changed = random.between(0, 6);
+    for cell in random.places(changed, code.n()) {
+        incoming[cell] = random.below(3) as u8;
+    }
+    (incoming, channel)
+}
+
+/// A line between a codeword and one of those that differ from it in 6 cells: there it holds the one's cell, the other's,
+/// or is unsure. Here both filled words may decode, to different codewords, and the choice between them counts.
+fn between(code: &Code, codeword: &[u8], random: &mut Random) -> Vec<u8> {
+    // About one in four words with 4 wrong cells is decoded to a neighbour.
+    let neighbour = (0..30).find_map(|_| {
+        let decoded = code.bounded_distance(&hit(codeword, 4, 0, random))?;
+        (decoded != codeword).then_some(decoded)
+    });
+    let Some(neighbour) = neighbour else {
+        return codeword.to_vec();
+    };
+    let cells = codeword.iter().zip(&neighbour);
+    cells
+        .map(|(&cell, &other)| {
+            if cell == other {
+                cell
+            } else {
+                random.pick(&[cell, other, UNSURE])
+            }
+        })
+        .collect()
+}
+
+/// Filling words: zeros, ones, a mix of both, or any.
+pub fn filling(count: usize, random: &mut Random) -> Vec<u64> {
+    match random.below(6) {
+        0 => vec![0; count],
+        1 => vec![!0; count],
+        2 => (0..count).map(|_| random.pick(&[0, !0])).collect(),
+        _ => random.words(count),
+    }
+}
+
+/// Rows with 4 to 7 unsure cells and up to 3 wrong ones.
+fn crowded(cells: Vec<u8>, n: usize, random: &mut Random) -> Vec<u8> {
+    let hit_row = |row: &[u8]| {
+        let unsure = random.pick(&[4, 5, 5, 6, 6, 7]);
+        let wrong = random.pick(&[0, 0, 0, 1, 2, 3]);
+        hit(row, wrong, unsure, random)
+    };
+    cells.chunks(n).flat_map(hit_row).collect()
+}
+
+/// Every row within the condition of demand 3: twice the wrong cells plus the unsure ones is below 6.
+pub fn within_condition(sent: &[u8], n: usize, random: &mut Random) -> Vec<u8> {
+    by_rows(sent, n, 0, random)
+}
+
+/// Every row within the condition, but for about `beyond` of them.
+fn by_rows(cells: &[u8], n: usize, beyond: usize, random: &mut Random) -> Vec<u8> {
+    let hit_row = |row: &[u8]| {
+        let wrong = random.below(3);
+        let left = TOO_MANY - 1 - 2 * wrong;
+        let unsure = if beyond > 0 && random.below(n) < beyond {
+            left + random.between(1, 2)
+        } else {
+            random.between(0, left)
+        };
+        hit(row, wrong, unsure, random)
+    };
+    cells.chunks(n).flat_map(hit_row).collect()
+}
+
+/// Some rows and columns unsure or wrong as a whole.
+fn lost_lines(mut cells: Vec<u8>, n: usize, random: &mut Random) -> Vec<u8> {
+    let (rows, columns) = (random.between(0, 5), random.between(0, 6));
+    for row in random.places(rows, n) {
+        let to = random.below(3) as u8;
+        cells[n * row..n * (row + 1)].fill(to);
+    }
+    for column in random.places(columns, n) {
+        let to = random.pick(&[0, 1, UNSURE, UNSURE]);
+        (0..n).for_each(|row| cells[n * row + column] = to);
+    }
+    cells
+}
+
+/// A few rows crossed with a few columns.
+fn blob(mut cells: Vec<u8>, n: usize, random: &mut Random) -> Vec<u8> {
+    let (height, width) = (random.between(2, 8), random.between(2, 8));
+    let rows = random.places(height, n);
+    let columns = random.places(width, n);
+    for row in rows {
+        for column in &columns {
+            let cell = &mut cells[n * row + column];
+            *cell = random.pick(&[1 - *cell, UNSURE]);
+        }
+    }
+    cells
+}
+
+fn transposed(cells: &[u8], n: usize) -> Vec<u8> {
+    (0..n * n)
+        .map(|place| cells[place % n * n + place / n])
+        .collect()
+}

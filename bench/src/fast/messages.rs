@@ -1,0 +1,266 @@
+//! The extrinsic messages of a packed line, by the clauses.
+
+use super::Line;
+use super::tables::{Mend, Tables};
+
+/// From this many unsure cells on, a line decoding fails.
+const TOO_MANY: u32 = 6;
+
+/// One filling of the incoming line: the filled word and what its decoding gave.
+struct Side {
+    /// The incoming line's filled word.
+    word: u64,
+    /// The cells in which the channel's filled word differs from it.
+    changed: u64,
+    sums: u16,
+    mend: Mend,
+    /// The codeword, if the decoding did not fail.
+    codeword: u64,
+    /// The cells at which this filling is in reach.
+    reach: u64,
+}
+
+impl Side {
+    #[inline(always)]
+    fn new(tables: &Tables, word: u64, sums: u16, channel_word: u64) -> Side {
+        let changed = word ^ channel_word;
+        let mend = tables.mend(sums);
+        let flips = mend.flips();
+        // A codeword two cells away is left by a change in a third cell, and by no other change.
+        let reach = match (mend.failed(), mend.is_far()) {
+            (true, _) => 0,
+            (false, true) => !changed | flips,
+            (false, false) => !0,
+        };
+        Side {
+            word,
+            changed,
+            sums,
+            mend,
+            codeword: word ^ flips,
+            reach,
+        }
+    }
+
+    /// Decodes the word with one cell changed.
+    #[inline(always)]
+    fn decode_changed<const COUNTED: bool>(&self, tables: &Tables, cell: u64) -> Option<u64> {
+        let word = self.word ^ cell;
+        let sums = if COUNTED {
+            tables.sums(word)
+        } else {
+            self.sums ^ tables.sums_of_cell(cell.trailing_zeros())
+        };
+        let mend = tables.mend(sums);
+        (!mend.failed()).then_some(word ^ mend.flips())
+    }
+}
+
+/// The messages of a line and the decodings that they count.
+#[inline(always)]
+pub fn messages<const COUNTED: bool>(
+    tables: &Tables,
+    incoming: Line,
+    channel: Line,
+    filling: u64,
+) -> (Line, u64) {
+    let unsure = incoming.erased.count_ones();
+    if unsure >= TOO_MANY {
+        return crowded_messages(tables, incoming, channel, filling, unsure);
+    }
+    let one = incoming.ones | incoming.erased & filling;
+    let two = incoming.ones | incoming.erased & !filling;
+    let sums_one = tables.sums(one);
+    if !COUNTED && sums_one == 0 && unsure == 0 {
+        // A codeword keeps every cell, whatever the channel says.
+        return (incoming, 2);
+    }
+    let sums_two = if COUNTED || unsure > 0 {
+        tables.sums(two)
+    } else {
+        sums_one
+    };
+    let channel_one = channel.ones | channel.erased & filling;
+    let channel_two = channel.ones | channel.erased & !filling;
+    let sides = [
+        Side::new(tables, one, sums_one, channel_one),
+        Side::new(tables, two, sums_two, channel_two),
+    ];
+    let own = own_decoding(&sides, incoming);
+    let differs = incoming.ones ^ channel.ones | incoming.erased ^ channel.erased;
+    if differs == 0 {
+        return (own, 2);
+    }
+    let settled = settled_by_clauses::<COUNTED>(tables, &sides, incoming, channel, unsure);
+    let line = Line {
+        ones: own.ones & !differs | settled.line.ones & differs,
+        erased: own.erased & !differs | settled.line.erased & differs,
+    };
+    (line, 2 + settled.opened)
+}
+
+/// The line decoding of the incoming line itself.
+#[inline(always)]
+fn own_decoding(sides: &[Side; 2], incoming: Line) -> Line {
+    let [one, two] = sides;
+    match (one.mend.failed(), two.mend.failed()) {
+        (true, true) => incoming,
+        (true, false) => full(two.codeword),
+        (false, true) => full(one.codeword),
+        (false, false) => full(nearer(incoming, one.codeword, two.codeword)),
+    }
+}
+
+/// What the clauses say of the cells at which incoming and channel differ; other cells are not to be looked at.
+struct Settled {
+    line: Line,
+    opened: u64,
+}
+
+#[inline(always)]
+fn settled_by_clauses<const COUNTED: bool>(
+    tables: &Tables,
+    sides: &[Side; 2],
+    incoming: Line,
+    channel: Line,
+    unsure: u32,
+) -> Settled {
+    let [one, two] = sides;
+    let differs = incoming.ones ^ channel.ones | incoming.erased ^ channel.erased;
+    // A sixth unsure cell: the replaced line cannot be decoded.
+    let crowded = if unsure + 1 == TOO_MANY {
+        differs & channel.erased
+    } else {
+        0
+    };
+    let todo = differs & !crowded;
+    let both = todo & one.reach & two.reach;
+    let only_one = todo & one.reach & !two.reach;
+    let only_two = todo & two.reach & !one.reach;
+    let neither = todo & !(one.reach | two.reach);
+    let mut settled = Settled {
+        line: Line {
+            ones: both & one.codeword
+                | only_one & one.codeword
+                | only_two & two.codeword
+                | neither & channel.ones,
+            erased: crowded | neither & channel.erased,
+        },
+        opened: 0,
+    };
+    // Where the two codewords in reach are the same, there is nothing to choose.
+    for cell in cells_of(both & (one.codeword ^ two.codeword)) {
+        let line = replaced(incoming, channel, cell);
+        settled.set(cell, nearer(line, one.codeword, two.codeword));
+    }
+    // None in reach and the channel unsure: one of the fillings changed, and it alone can now be decoded.
+    for cell in cells_of(neither & channel.erased) {
+        let side = if one.changed & cell != 0 { one } else { two };
+        settled.opened += 1;
+        if let Some(codeword) = side.decode_changed::<COUNTED>(tables, cell) {
+            settled.set(cell, codeword);
+        }
+    }
+    // One in reach: the other is open where it changed and the reached codeword does not agree with it.
+    let replaced_two = two.word ^ two.changed;
+    for cell in cells_of(only_one & two.changed & (one.codeword ^ replaced_two)) {
+        settled.opened += 1;
+        if let Some(codeword) = two.decode_changed::<COUNTED>(tables, cell) {
+            let line = replaced(incoming, channel, cell);
+            settled.set(cell, nearer(line, one.codeword, codeword));
+        }
+    }
+    let replaced_one = one.word ^ one.changed;
+    for cell in cells_of(only_two & one.changed & (two.codeword ^ replaced_one)) {
+        settled.opened += 1;
+        if let Some(codeword) = one.decode_changed::<COUNTED>(tables, cell) {
+            let line = replaced(incoming, channel, cell);
+            settled.set(cell, nearer(line, codeword, two.codeword));
+        }
+    }
+    settled
+}
+
+impl Settled {
+    /// Gives a cell the codeword's value.
+    #[inline(always)]
+    fn set(&mut self, cell: u64, codeword: u64) {
+        self.line.ones = self.line.ones & !cell | codeword & cell;
+        self.line.erased &= !cell;
+    }
+}
+
+/// 6 or more unsure cells come in: the channel's cells, but with exactly 6 an unsure cell that the channel knows is
+/// decoded afresh.
+#[cold]
+fn crowded_messages(
+    tables: &Tables,
+    incoming: Line,
+    channel: Line,
+    filling: u64,
+    unsure: u32,
+) -> (Line, u64) {
+    let mut line = channel;
+    let mut count = 0;
+    if unsure == TOO_MANY {
+        for cell in cells_of(incoming.erased & !channel.erased) {
+            count += 2;
+            let codeword = decode_line(tables, replaced(incoming, channel, cell), filling);
+            if let Some(codeword) = codeword {
+                line.ones = line.ones & !cell | codeword & cell;
+            }
+        }
+    }
+    (line, count)
+}
+
+/// Line decoding of a line with fewer than 6 unsure cells.
+fn decode_line(tables: &Tables, line: Line, filling: u64) -> Option<u64> {
+    let [one, two] = [filling, !filling].map(|bits| {
+        let word = line.ones | line.erased & bits;
+        let mend = tables.mend(tables.sums(word));
+        (!mend.failed()).then_some(word ^ mend.flips())
+    });
+    match (one, two) {
+        (Some(one), Some(two)) => Some(nearer(line, one, two)),
+        (one, two) => one.or(two),
+    }
+}
+
+/// The codeword with fewer differences at the known cells; at a tie word one's.
+#[inline(always)]
+fn nearer(line: Line, one: u64, two: u64) -> u64 {
+    if one == two {
+        return one;
+    }
+    let differences = |codeword: u64| ((codeword ^ line.ones) & !line.erased).count_ones();
+    if differences(two) < differences(one) {
+        two
+    } else {
+        one
+    }
+}
+
+/// The incoming line with one cell of the channel's.
+#[inline(always)]
+fn replaced(incoming: Line, channel: Line, cell: u64) -> Line {
+    Line {
+        ones: incoming.ones & !cell | channel.ones & cell,
+        erased: incoming.erased & !cell | channel.erased & cell,
+    }
+}
+
+fn full(ones: u64) -> Line {
+    Line { ones, erased: 0 }
+}
+
+/// The bits of a word, one at a time.
+#[inline(always)]
+fn cells_of(word: u64) -> impl Iterator<Item = u64> {
+    let mut left = word;
+    std::iter::from_fn(move || {
+        let cell = left & left.wrapping_neg();
+        left ^= cell;
+        (cell != 0).then_some(cell)
+    })
+}

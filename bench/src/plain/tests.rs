@@ -1,0 +1,341 @@
+//! The examples of document 01, and properties that its sentences name.
+
+use super::clauses::Clause;
+use super::line::{filled_words, known_differences, replaced};
+use super::*;
+use crate::random::Random;
+
+/// "G has ones at 0, 4, 6, 7, 8, 15."
+const G: [usize; 6] = [0, 4, 6, 7, 8, 15];
+
+/// A line of degree 4: "unnamed cells are 0".
+fn line(ones: &[usize], unsure: &[usize]) -> Vec<u8> {
+    let mut cells = vec![0; 16];
+    ones.iter().for_each(|&cell| cells[cell] = 1);
+    unsure.iter().for_each(|&cell| cells[cell] = UNSURE);
+    cells
+}
+
+fn four() -> &'static Code {
+    Code::of(Degree::Four)
+}
+
+#[test]
+fn lines_p1_to_p9() {
+    let bits = |cells: &[usize]| cells.iter().fold(0, |word, cell| word | 1u64 << cell);
+    let zero = Some(line(&[], &[]));
+    let g = Some(line(&G, &[]));
+    let table = [
+        ("P1", line(&[], &[]), 0, zero.clone()),
+        ("P2", line(&[0, 4], &[]), 0, zero.clone()),
+        ("P3", line(&[0, 4, 6], &[]), 0, None),
+        ("P4", line(&[], &[0, 4, 6, 7, 8]), 0, zero.clone()),
+        ("P5", line(&[15], &[0, 4, 6, 7, 8]), 0, g.clone()),
+        ("P6", line(&[], &G), 0, None),
+        ("P7", line(&[0, 4], &[6, 7]), 0, zero),
+        ("P8", line(&[0, 4], &[6, 7]), bits(&[6, 7]), g),
+        ("P9", line(&[0, 4], &[6, 7]), bits(&[6]), None),
+    ];
+    for (name, cells, filling, decoded) in table {
+        assert_eq!(four().decode_line(&cells, filling), decoded, "{name}");
+    }
+}
+
+#[test]
+fn messages_p10_to_p14() {
+    let p3 = line(&[0, 4, 6], &[]);
+    let p4 = line(&[], &[0, 4, 6, 7, 8]);
+    let p14 = line(&[4, 6, 7, 8, 15], &[0, 1, 2, 3, 5, 9]);
+    let channel = |incoming: &[u8], at: usize, cell: u8| replaced(incoming, at, cell);
+    let p10 = line(&[0, 4], &[]);
+    let table = [
+        ("P10", p10.clone(), channel(&p10, 6, 1), line(&[6], &[]), 2),
+        ("P11", p3.clone(), channel(&p3, 6, 0), line(&[0, 4], &[]), 2),
+        (
+            "P12",
+            p3.clone(),
+            channel(&p3, 6, UNSURE),
+            line(&[0, 4], &[]),
+            3,
+        ),
+        (
+            "P13",
+            p4.clone(),
+            channel(&p4, 15, UNSURE),
+            line(&[], &[15]),
+            2,
+        ),
+        (
+            "P14",
+            p14.clone(),
+            channel(&p14, 0, 0),
+            replaced(&p14, 0, 1),
+            2,
+        ),
+    ];
+    for (name, incoming, channel, messages, count) in table {
+        assert_eq!(four().messages(&incoming, &channel, 0), messages, "{name}");
+        assert_eq!(four().line_count(&incoming, &channel, 0), count, "{name}");
+    }
+}
+
+#[test]
+fn the_printed_example() {
+    let zeros = "0000000000000000\n";
+    let input = format!("4\n1000100000000000\n{}", zeros.repeat(15));
+    let printed = format!("0 64 0 1\n{}", zeros.repeat(16));
+    assert_eq!(text::printed(input.as_bytes()), printed.as_bytes());
+}
+
+#[test]
+fn g_is_a_codeword_of_least_weight() {
+    assert!(four().is_codeword(&line(&G, &[])));
+    let is_codeword = |bits: &u32| {
+        let word: Vec<u8> = (0..16).map(|cell| (bits >> cell & 1) as u8).collect();
+        four().is_codeword(&word)
+    };
+    let weights = (1..1u32 << 16).filter(is_codeword).map(u32::count_ones);
+    assert_eq!(weights.min(), Some(6));
+}
+
+#[test]
+fn powers_go_through_every_element_and_return_to_one() {
+    for degree in Degree::ALL {
+        let order = degree.n() - 1;
+        let mut powers: Vec<u16> = (0..order).map(|i| degree.power(i)).collect();
+        assert_eq!(degree.power(order), 1);
+        powers.sort_unstable();
+        assert!(powers.into_iter().eq(1..=order as u16));
+    }
+}
+
+#[test]
+fn message_lengths_are_7_and_51() {
+    assert_eq!(Degree::ALL.map(Degree::k), [7, 51]);
+    assert_eq!(Degree::ALL.map(Degree::n), [16, 64]);
+}
+
+#[test]
+fn an_encoded_array_holds_its_message_and_is_closed_both_ways() {
+    let mut random = Random::new(3);
+    for degree in Degree::ALL {
+        let code = Code::of(degree);
+        for _ in 0..20 {
+            let message = random.bits(degree.k() * degree.k());
+            let cells = code.encode(&message);
+            assert_eq!(code.extract(&cells), message);
+            assert!(code.is_closed(&cells));
+            assert!(code.has_codeword_rows(&cells));
+        }
+    }
+}
+
+#[test]
+fn encoding_is_linear() {
+    let mut random = Random::new(4);
+    let sum = |a: &[u8], b: &[u8]| a.iter().zip(b).map(|(a, b)| a ^ b).collect::<Vec<u8>>();
+    for degree in Degree::ALL {
+        let code = Code::of(degree);
+        let messages = [0, 1].map(|_| random.bits(degree.k() * degree.k()));
+        let arrays = [0, 1].map(|at: usize| code.encode(&messages[at]));
+        assert_eq!(
+            code.encode(&sum(&messages[0], &messages[1])),
+            sum(&arrays[0], &arrays[1])
+        );
+    }
+}
+
+/// "Checks on checks are equal whether rows or columns are worked first": the array of the transposed message is the
+/// transposed array.
+#[test]
+fn rows_or_columns_first_is_the_same() {
+    let mut random = Random::new(5);
+    let transposed = |cells: &[u8], n: usize| -> Vec<u8> {
+        (0..n * n)
+            .map(|place| cells[place % n * n + place / n])
+            .collect()
+    };
+    for degree in Degree::ALL {
+        let (code, n, k) = (Code::of(degree), degree.n(), degree.k());
+        let message = random.bits(k * k);
+        assert_eq!(
+            code.encode(&transposed(&message, k)),
+            transposed(&code.encode(&message), n)
+        );
+    }
+}
+
+/// "If twice the wrong known cells plus the unsure ones is below 6, the sent codeword comes out under every filling."
+#[test]
+fn a_line_within_the_condition_comes_out_as_sent() {
+    let mut random = Random::new(6);
+    for degree in Degree::ALL {
+        let (code, n) = (Code::of(degree), degree.n());
+        for _ in 0..2000 {
+            let mut sent = random.bits(n);
+            code.encode_line(&mut sent);
+            assert!(code.is_codeword(&sent));
+            let wrong = random.below(3);
+            let unsure = random.below(TOO_MANY - 2 * wrong);
+            let places = random.places(wrong + unsure, n);
+            let mut line = sent.clone();
+            places[..wrong].iter().for_each(|&cell| line[cell] ^= 1);
+            places[wrong..].iter().for_each(|&cell| line[cell] = UNSURE);
+            assert_eq!(code.decode_line(&line, random.word()), Some(sent));
+        }
+    }
+}
+
+/// What each clause says the message is, beside one decoding per cell.
+#[test]
+fn every_clause_gives_the_message_of_the_definition() {
+    let mut random = Random::new(7);
+    let mut seen = Vec::new();
+    for degree in Degree::ALL {
+        let (code, n) = (Code::of(degree), degree.n());
+        for _ in 0..3000 {
+            let (incoming, channel) = damaged_pair(code, &mut random);
+            let filling = random.word();
+            let clauses = code.clauses(&incoming, &channel, filling);
+            let own = code.decode_line(&incoming, filling);
+            let codewords =
+                filled_words(&incoming, filling).map(|word| code.bounded_distance(&word));
+            for (k, &clause) in clauses.iter().enumerate().take(n) {
+                let line = replaced(&incoming, k, channel[k]);
+                let line_words = filled_words(&line, filling);
+                let reached = [0, 1].map(|side: usize| {
+                    let codeword = codewords[side].as_ref()?;
+                    let apart = codeword
+                        .iter()
+                        .zip(&line_words[side])
+                        .filter(|(a, b)| a != b);
+                    (apart.count() <= RADIUS).then_some(codeword)
+                });
+                let said = match (clause, reached) {
+                    (Clause::Equal, _) => own.as_ref().map_or(incoming[k], |word| word[k]),
+                    (Clause::Crowded, _) => UNSURE,
+                    (Clause::Both, [Some(one), Some(two)]) => {
+                        let two_is_nearer =
+                            known_differences(&line, two) < known_differences(&line, one);
+                        if two_is_nearer { two[k] } else { one[k] }
+                    }
+                    (Clause::Neither | Clause::Channel, _) => channel[k],
+                    (
+                        Clause::Agreeing | Clause::Unchanged,
+                        [Some(word), None] | [None, Some(word)],
+                    ) => word[k],
+                    (Clause::Open | Clause::Afresh, _) => continue,
+                    (clause, reached) => panic!("{clause:?} with {reached:?}"),
+                };
+                assert_eq!(
+                    said,
+                    code.message(&incoming, &channel, filling, k),
+                    "{clause:?}"
+                );
+                if !seen.contains(&clause) {
+                    seen.push(clause);
+                }
+            }
+        }
+    }
+    assert_eq!(seen.len(), 7, "clauses seen: {seen:?}");
+}
+
+/// Two damaged copies of one codeword.
+fn damaged_pair(code: &Code, random: &mut Random) -> (Vec<u8>, Vec<u8>) {
+    let mut sent = random.bits(code.n());
+    code.encode_line(&mut sent);
+    let mut damaged = || {
+        let mut line = sent.clone();
+        let (wrong, unsure) = (random.below(5), random.below(8));
+        let places = random.places(wrong + unsure, code.n());
+        places[..wrong].iter().for_each(|&cell| line[cell] ^= 1);
+        places[wrong..].iter().for_each(|&cell| line[cell] = UNSURE);
+        line
+    };
+    (damaged(), damaged())
+}
+
+/// The last sentence of demand 3.
+#[test]
+fn the_row_condition_finds_the_sent_array() {
+    let mut random = Random::new(8);
+    let code = four();
+    for _ in 0..50 {
+        let sent = code.encode(&random.bits(49));
+        let mut received = sent.clone();
+        for row in received.chunks_mut(16) {
+            let wrong = random.below(3);
+            let unsure = random.below(TOO_MANY - 2 * wrong);
+            let places = random.places(wrong + unsure, 16);
+            places[..wrong].iter().for_each(|&cell| row[cell] ^= 1);
+            places[wrong..].iter().for_each(|&cell| row[cell] = UNSURE);
+        }
+        assert!(code.meets_row_condition(&sent, &received));
+        let iterations = random.between(1, 3);
+        let filling = random.words(2 * iterations * 16);
+        let (cells, report) = code.decode(iterations as u64, &received, &filling);
+        assert_eq!(cells, sent);
+        assert!(report.closed);
+        assert_eq!(report.erasures, 0);
+        assert!(report.count <= (2 * iterations * 16 * (16 + 2)) as u64);
+    }
+}
+
+#[test]
+fn tests_run_in_number_order() {
+    use super::entries::*;
+    let filled = vec![7u64; 32];
+    let (good, bad) = (vec![0u8; 256], vec![3u8; 256]);
+    let mut cells = vec![9u8; 256];
+    let mut call = |degree, iterations, received: &[u8], long: usize, report: &mut [u64]| {
+        let refusal = decode(
+            degree,
+            iterations,
+            received,
+            &filled,
+            &mut cells[..long],
+            report,
+        );
+        (refusal, cells.iter().all(|&cell| cell == 9))
+    };
+    let mut report = [5; 3];
+    assert_eq!(call(5, 0, &bad, 255, &mut report), (1, true));
+    assert_eq!(report, [0; 3]);
+    assert_eq!(call(4, 0, &bad, 255, &mut report), (2, true));
+    assert_eq!(call(4, 21, &bad, 255, &mut report), (2, true));
+    assert_eq!(call(4, 1, &bad, 255, &mut report), (3, true));
+    assert_eq!(call(4, 1, &bad, 256, &mut report), (4, true));
+    assert_eq!(call(4, 1, &bad, 256, &mut [5; 2]), (3, true));
+    assert_eq!(call(4, 1, &good, 256, &mut report), (0, false));
+    assert_eq!(report, [64, 0, 1]);
+}
+
+#[test]
+fn an_index_of_n_is_3_and_comes_before_the_cells() {
+    use super::entries::row;
+    let mut report = [5; 2];
+    assert_eq!(row(4, &[3; 256], 16, &mut report), 3);
+    assert_eq!(row(4, &[3; 256], 15, &mut report), 4);
+    assert_eq!(report, [0, 0]);
+    assert_eq!(row(4, &[2; 256], 15, &mut report), 0);
+    assert_eq!(report, [240, 16]);
+}
+
+#[test]
+fn malformed_texts() {
+    let line = "0000000000000000\n";
+    let good = format!("4\n{}", line.repeat(16));
+    let text = |input: &str| String::from_utf8(text::printed(input.as_bytes())).unwrap();
+    assert!(text(&good).starts_with("0 64 0 1\n"));
+    for input in ["", "4", "\n", "04\n", "4\r\n", "5\n", "7\n", "44\n", " 4\n"] {
+        assert_eq!(text(input), "1 0 0 0\n", "{input:?}");
+    }
+    assert_eq!(text("4\n"), "3 0 0 0\n");
+    assert_eq!(text(&format!("{good}\n")), "3 0 0 0\n");
+    assert_eq!(text(&good[..good.len() - 1]), "3 0 0 0\n");
+    assert_eq!(text(&good.replacen("0\n0", "00\n", 1)), "3 0 0 0\n");
+    assert_eq!(text(&good.replacen('0', "2", 1)), "4 0 0 0\n");
+    assert_eq!(text(&good.replacen("0\n0", "x\n0", 1)), "4 0 0 0\n");
+    assert_eq!(text(&good.replacen("\n0", "\r0", 2)), "1 0 0 0\n");
+}

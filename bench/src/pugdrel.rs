@@ -1,0 +1,375 @@
+//! The static library of the proved decoder, for safe Rust.
+//!
+//! [`entries`] has the functions of the library as they are: any slices, a report to write to, and the refusal number as
+//! the result. The functions of this module are the same in the manner of Rust: a [`Result`] with what the call answers
+//! with, or with the [`Refusal`].
+//!
+//! The library asks nothing of its caller: slices may have any length and cells any value. So every function here is
+//! safe, and this is the only module of the bench with `unsafe` in it.
+
+use std::fmt;
+
+pub use crate::plain::array::Report;
+use crate::plain::entries::SHEET_OUTPUT;
+
+/// Why a call was turned down; nothing that was lent has changed then.
+#[derive(Clone, Copy, Debug, PartialEq, Eq)]
+pub enum Refusal {
+    /// 1: the degree is not 4 or 6.
+    Degree,
+    /// 2: iterations 0 or above 20.
+    Iterations,
+    /// 3: a lent slice is not of the exact length, or there is no such row.
+    Length,
+    /// 4: a cell above 2, or above 1 where a cell cannot be unsure.
+    Cell,
+    /// A number that is not in document 01.
+    Unknown(u64),
+}
+
+impl Refusal {
+    /// The number of document 01.
+    pub fn number(self) -> u64 {
+        match self {
+            Refusal::Degree => 1,
+            Refusal::Iterations => 2,
+            Refusal::Length => 3,
+            Refusal::Cell => 4,
+            Refusal::Unknown(number) => number,
+        }
+    }
+
+    /// Nothing for 0: the call was taken.
+    fn test(number: u64) -> Result<(), Refusal> {
+        match number {
+            0 => Ok(()),
+            1 => Err(Refusal::Degree),
+            2 => Err(Refusal::Iterations),
+            3 => Err(Refusal::Length),
+            4 => Err(Refusal::Cell),
+            number => Err(Refusal::Unknown(number)),
+        }
+    }
+}
+
+impl fmt::Display for Refusal {
+    fn fmt(&self, f: &mut fmt::Formatter) -> fmt::Result {
+        write!(f, "refused: {}", self.number())
+    }
+}
+
+impl std::error::Error for Refusal {}
+
+/// Decodes a received array of n by n cells (0, 1, or 2 for unsure) into `cells`, with 2 × iterations × n filling words.
+pub fn decode(
+    degree: u64,
+    iterations: u64,
+    received: &[u8],
+    filling: &[u64],
+    cells: &mut [u8],
+) -> Result<Report, Refusal> {
+    let mut report = [0; 3];
+    Refusal::test(entries::decode(
+        degree,
+        iterations,
+        received,
+        filling,
+        cells,
+        &mut report,
+    ))?;
+    let [count, erasures, closed] = report;
+    Ok(Report {
+        count,
+        erasures,
+        closed: closed != 0,
+    })
+}
+
+/// Writes the array of a message of k by k bits.
+pub fn encode(degree: u64, message: &[u8], cells: &mut [u8]) -> Result<(), Refusal> {
+    Refusal::test(entries::encode(degree, message, cells))
+}
+
+/// Copies the message cells of an array out, unsure ones too.
+pub fn extract(degree: u64, cells: &[u8], message: &mut [u8]) -> Result<(), Refusal> {
+    Refusal::test(entries::extract(degree, cells, message))
+}
+
+/// One row of the lent array itself.
+pub fn row(degree: u64, cells: &[u8], index: usize) -> Result<&[u8], Refusal> {
+    let mut report = [0; 2];
+    Refusal::test(entries::row(degree, cells, index, &mut report))?;
+    let [start, length] = report.map(|number| number as usize);
+    Ok(&cells[start..start + length])
+}
+
+/// Replaces a full word by the codeword within 2 of it; false, and the word as it came, if there is none.
+pub fn bounded_distance(degree: u64, word: &mut [u8]) -> Result<bool, Refusal> {
+    let mut report = [0; 1];
+    Refusal::test(entries::bounded_distance(degree, word, &mut report))?;
+    Ok(report != [0])
+}
+
+/// Decodes one line with unsure cells in place; false, and the line as it came, if that fails.
+pub fn decode_line(degree: u64, cells: &mut [u8], filling: u64) -> Result<bool, Refusal> {
+    let mut report = [0; 1];
+    Refusal::test(entries::decode_line(degree, cells, filling, &mut report))?;
+    Ok(report != [0])
+}
+
+/// Writes the extrinsic message of every cell of a line, and gives the count of the line.
+pub fn messages(
+    degree: u64,
+    incoming: &[u8],
+    channel: &[u8],
+    filling: u64,
+    messages: &mut [u8],
+) -> Result<u64, Refusal> {
+    let mut report = [0; 1];
+    Refusal::test(entries::messages(
+        degree,
+        incoming,
+        channel,
+        filling,
+        messages,
+        &mut report,
+    ))?;
+    Ok(report[0])
+}
+
+/// What the program `sheet` prints for this input.
+pub fn sheet(input: &[u8]) -> Result<Vec<u8>, Refusal> {
+    let mut output = vec![0; SHEET_OUTPUT];
+    let mut report = [0; 1];
+    Refusal::test(entries::sheet(input, &mut output, &mut report))?;
+    output.truncate(report[0] as usize);
+    Ok(output)
+}
+
+/// The functions of the library as they are. Each returns the refusal number, 0 for none; the numbers that it answers
+/// with go to `report`, which must have exactly their length.
+pub mod entries {
+    use super::library;
+
+    /// Reports the count, the unsure cells, and 1 for closed.
+    pub fn decode(
+        degree: u64,
+        iterations: u64,
+        received: &[u8],
+        filling: &[u64],
+        cells: &mut [u8],
+        report: &mut [u64],
+    ) -> u64 {
+        // SAFETY: each pointer goes with the length of its slice; the writable slices are borrowed mutably, so that
+        // none of them overlaps another; the library keeps no pointer. So it is for all calls below.
+        unsafe {
+            library::pugdrel_decode(
+                degree,
+                iterations,
+                received.as_ptr(),
+                received.len(),
+                filling.as_ptr(),
+                filling.len(),
+                cells.as_mut_ptr(),
+                cells.len(),
+                report.as_mut_ptr(),
+                report.len(),
+            )
+        }
+    }
+
+    /// Reports nothing.
+    pub fn encode(degree: u64, message: &[u8], cells: &mut [u8]) -> u64 {
+        // SAFETY: as in `decode`.
+        unsafe {
+            library::pugdrel_encode(
+                degree,
+                message.as_ptr(),
+                message.len(),
+                cells.as_mut_ptr(),
+                cells.len(),
+            )
+        }
+    }
+
+    /// Reports nothing.
+    pub fn extract(degree: u64, cells: &[u8], message: &mut [u8]) -> u64 {
+        // SAFETY: as in `decode`.
+        unsafe {
+            library::pugdrel_extract(
+                degree,
+                cells.as_ptr(),
+                cells.len(),
+                message.as_mut_ptr(),
+                message.len(),
+            )
+        }
+    }
+
+    /// Reports the place where the row starts, and its length.
+    pub fn row(degree: u64, cells: &[u8], index: usize, report: &mut [u64]) -> u64 {
+        // SAFETY: as in `decode`.
+        unsafe {
+            library::pugdrel_row(
+                degree,
+                cells.as_ptr(),
+                cells.len(),
+                index,
+                report.as_mut_ptr(),
+                report.len(),
+            )
+        }
+    }
+
+    /// Reports 1 if there is a codeword.
+    pub fn bounded_distance(degree: u64, word: &mut [u8], report: &mut [u64]) -> u64 {
+        // SAFETY: as in `decode`.
+        unsafe {
+            library::pugdrel_bounded_distance(
+                degree,
+                word.as_mut_ptr(),
+                word.len(),
+                report.as_mut_ptr(),
+                report.len(),
+            )
+        }
+    }
+
+    /// Reports 1 if the line was decoded.
+    pub fn decode_line(degree: u64, cells: &mut [u8], filling: u64, report: &mut [u64]) -> u64 {
+        // SAFETY: as in `decode`.
+        unsafe {
+            library::pugdrel_decode_line(
+                degree,
+                cells.as_mut_ptr(),
+                cells.len(),
+                filling,
+                report.as_mut_ptr(),
+                report.len(),
+            )
+        }
+    }
+
+    /// Reports the count.
+    pub fn messages(
+        degree: u64,
+        incoming: &[u8],
+        channel: &[u8],
+        filling: u64,
+        messages: &mut [u8],
+        report: &mut [u64],
+    ) -> u64 {
+        // SAFETY: as in `decode`.
+        unsafe {
+            library::pugdrel_messages(
+                degree,
+                incoming.as_ptr(),
+                incoming.len(),
+                channel.as_ptr(),
+                channel.len(),
+                filling,
+                messages.as_mut_ptr(),
+                messages.len(),
+                report.as_mut_ptr(),
+                report.len(),
+            )
+        }
+    }
+
+    /// Reports the bytes written to `output`, whose length is 4244.
+    pub fn sheet(input: &[u8], output: &mut [u8], report: &mut [u64]) -> u64 {
+        // SAFETY: as in `decode`.
+        unsafe {
+            library::pugdrel_sheet(
+                input.as_ptr(),
+                input.len(),
+                output.as_mut_ptr(),
+                output.len(),
+                report.as_mut_ptr(),
+                report.len(),
+            )
+        }
+    }
+}
+
+/// The C interface, as `include/pugdrel.h` declares it.
+mod library {
+    unsafe extern "C" {
+        pub fn pugdrel_decode(
+            degree: u64,
+            iterations: u64,
+            received: *const u8,
+            received_len: usize,
+            filling: *const u64,
+            filling_len: usize,
+            cells: *mut u8,
+            cells_len: usize,
+            report: *mut u64,
+            report_len: usize,
+        ) -> u64;
+
+        pub fn pugdrel_encode(
+            degree: u64,
+            message: *const u8,
+            message_len: usize,
+            cells: *mut u8,
+            cells_len: usize,
+        ) -> u64;
+
+        pub fn pugdrel_extract(
+            degree: u64,
+            cells: *const u8,
+            cells_len: usize,
+            message: *mut u8,
+            message_len: usize,
+        ) -> u64;
+
+        pub fn pugdrel_row(
+            degree: u64,
+            cells: *const u8,
+            cells_len: usize,
+            index: usize,
+            report: *mut u64,
+            report_len: usize,
+        ) -> u64;
+
+        pub fn pugdrel_bounded_distance(
+            degree: u64,
+            word: *mut u8,
+            word_len: usize,
+            report: *mut u64,
+            report_len: usize,
+        ) -> u64;
+
+        pub fn pugdrel_decode_line(
+            degree: u64,
+            cells: *mut u8,
+            cells_len: usize,
+            filling: u64,
+            report: *mut u64,
+            report_len: usize,
+        ) -> u64;
+
+        pub fn pugdrel_messages(
+            degree: u64,
+            incoming: *const u8,
+            incoming_len: usize,
+            channel: *const u8,
+            channel_len: usize,
+            filling: u64,
+            messages: *mut u8,
+            messages_len: usize,
+            report: *mut u64,
+            report_len: usize,
+        ) -> u64;
+
+        pub fn pugdrel_sheet(
+            input: *const u8,
+            input_len: usize,
+            output: *mut u8,
+            output_len: usize,
+            report: *mut u64,
+            report_len: usize,
+        ) -> u64;
+    }
+}

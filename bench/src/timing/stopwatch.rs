@@ -1,0 +1,215 @@
+//! Ratios of times that a busy machine does not spoil.
+
+use std::hint::black_box;
+use std::time::Instant;
+use std::{fs, iter};
+
+use crate::damage;
+use crate::fast::{Decoder, Effort};
+use crate::plain::array::Report;
+use crate::plain::{Code, Degree};
+use crate::pugdrel;
+use crate::random::Random;
+
+/// A kind of received arrays, and the iterations to decode them with.
+#[derive(Clone, Copy)]
+pub struct Setting {
+    pub degree: Degree,
+    pub wrong: usize,
+    pub unsure: usize,
+    pub iterations: u64,
+}
+
+impl Setting {
+    pub const fn new(degree: Degree, wrong: usize, unsure: usize, iterations: u64) -> Setting {
+        Setting {
+            degree,
+            wrong,
+            unsure,
+            iterations,
+        }
+    }
+}
+
+/// What is timed.
+#[derive(Clone, Copy, PartialEq, Eq)]
+pub enum Maker {
+    Library,
+    FastCounted,
+    FastNeeded,
+    Plain,
+}
+
+impl Maker {
+    pub fn name(self) -> &'static str {
+        match self {
+            Maker::Library => "library",
+            Maker::FastCounted => "fast",
+            Maker::FastNeeded => "fast, needed only",
+            Maker::Plain => "plain",
+        }
+    }
+}
+
+/// Arrays of one setting with their filling words.
+pub struct Load {
+    pub setting: Setting,
+    arrays: Vec<(Vec<u8>, Vec<u64>)>,
+}
+
+impl Load {
+    pub fn new(setting: Setting, arrays: usize, random: &mut Random) -> Load {
+        let (code, n) = (Code::of(setting.degree), setting.degree.n());
+        let words = 2 * setting.iterations as usize * n;
+        let received = || {
+            let sent = damage::sent(code, random);
+            damage::hit(&sent, setting.wrong, setting.unsure, random)
+        };
+        // All arrays before all filling words: settings that differ in the iterations alone then have the same arrays.
+        let received: Vec<_> = iter::repeat_with(received).take(arrays).collect();
+        let filled = received
+            .into_iter()
+            .map(|cells| (cells, random.words(words)));
+        Load {
+            setting,
+            arrays: filled.collect(),
+        }
+    }
+
+    /// Lines that one decoding of each array goes through.
+    pub fn lines(&self) -> usize {
+        self.arrays.iter().map(|(_, filling)| filling.len()).sum()
+    }
+}
+
+pub struct Stopwatch {
+    fast: [Decoder; 2],
+    rounds: usize,
+}
+
+/// Arrays of a load that the plain implementation decodes, at least once.
+const FEW: usize = 8;
+
+/// Seconds that it decodes them for, at least: many steps of the kernel's count.
+const LONG: f64 = 0.1;
+
+impl Stopwatch {
+    pub fn new(rounds: usize) -> Stopwatch {
+        Stopwatch {
+            fast: Degree::ALL.map(Decoder::new),
+            rounds: rounds.max(1),
+        }
+    }
+
+    /// Decodes every array of a load once.
+    pub fn reports(&self, maker: Maker, load: &Load) -> Vec<Report> {
+        let arrays = 0..load.arrays.len();
+        arrays
+            .map(|array| self.decode(maker, load, array))
+            .collect()
+    }
+
+    /// The time of one maker on a load by that of another on a load of as many arrays.
+    ///
+    /// The two take turns, array by array. Each such turn is far shorter than the time for which a busy machine puts a
+    /// process aside, so that few of them are interrupted, and the median of their ratios is not moved by those.
+    pub fn ratio(&self, first: (Maker, &Load), second: (Maker, &Load)) -> f64 {
+        let mut ratios = Vec::new();
+        for _ in 0..self.rounds {
+            for array in 0..first.1.arrays.len() {
+                let time = self.time(first.0, first.1, array);
+                ratios.push(time / self.time(second.0, second.1, array));
+            }
+        }
+        median(ratios)
+    }
+
+    /// The time of the plain implementation on a load by that of the library on another.
+    ///
+    /// A plain decoding takes long enough to be put aside for others again and again. So its time on the processor is
+    /// taken, which the kernel counts in steps of some milliseconds, over several arrays together.
+    pub fn plain_ratio(&self, load: &Load, unit: &Load) -> f64 {
+        let arrays = FEW.min(load.arrays.len());
+        let library = (0..arrays).map(|array| {
+            let times = (0..self.rounds).map(|_| self.time(Maker::Library, unit, array));
+            median(times.collect())
+        });
+        let library: f64 = library.sum();
+        let start = Clock::now();
+        let mut decodings = 0;
+        while decodings < arrays || start.seconds() < LONG {
+            black_box(self.decode(Maker::Plain, load, decodings % arrays));
+            decodings += 1;
+        }
+        let plain = start.seconds() * arrays as f64 / decodings as f64;
+        plain / library
+    }
+
+    /// Seconds for one array.
+    fn time(&self, maker: Maker, load: &Load, array: usize) -> f64 {
+        let start = Instant::now();
+        black_box(self.decode(maker, load, array));
+        start.elapsed().as_secs_f64()
+    }
+
+    fn decode(&self, maker: Maker, load: &Load, array: usize) -> Report {
+        let Setting {
+            degree, iterations, ..
+        } = load.setting;
+        let (received, filling) = &load.arrays[array];
+        let fast = &self.fast[usize::from(degree == Degree::Six)];
+        let room = &mut [0; 64 * 64];
+        let cells = &mut room[..received.len()];
+        let report = match maker {
+            Maker::Library => {
+                pugdrel::decode(degree.number(), iterations, received, filling, cells)
+                    .expect("these arrays are not refused")
+            }
+            Maker::FastCounted => {
+                fast.decode(Effort::Counted, iterations, received, filling, cells)
+            }
+            Maker::FastNeeded => fast.decode(Effort::Needed, iterations, received, filling, cells),
+            Maker::Plain => {
+                let (left, report) = Code::of(degree).decode(iterations, received, filling);
+                cells.copy_from_slice(&left);
+                report
+            }
+        };
+        black_box(cells);
+        report
+    }
+}
+
+/// Time on the processor, or time as it passes where the kernel does not tell that.
+struct Clock {
+    start: Instant,
+    on_processor: Option<f64>,
+}
+
+impl Clock {
+    fn now() -> Clock {
+        Clock {
+            start: Instant::now(),
+            on_processor: processor_seconds(),
+        }
+    }
+
+    fn seconds(&self) -> f64 {
+        match (self.on_processor, processor_seconds()) {
+            (Some(before), Some(after)) => after - before,
+            _ => self.start.elapsed().as_secs_f64(),
+        }
+    }
+}
+
+/// How long this thread has been on a processor.
+fn processor_seconds() -> Option<f64> {
+    let numbers = fs::read_to_string("/proc/thread-self/schedstat").ok()?;
+    let nanoseconds: f64 = numbers.split(' ').next()?.parse().ok()?;
+    Some(nanoseconds * 1e-9)
+}
+
+fn median(mut values: Vec<f64>) -> f64 {
+    values.sort_by(f64::total_cmp);
+    values[values.len() / 2]
+}
