@@ -1,5 +1,4 @@
 // Taking the message out of an array.
-use packed::copying::copy_cells;
 use crate::refusals::extract_tests;
 use crate::sizes::check_size_of;
 use crate::sizes::message_size_of;
@@ -7,6 +6,7 @@ use field::degree::Degree;
 use field::degree::Named;
 use field::degree::degree_of;
 use field::degree::size_of;
+use packed::copying::copy_cells;
 ghost use mathlib.Core.Path.{_≡_};
 ghost use Prim.Native.Nat.{_*_};
 ghost use lib.ListN.{length};

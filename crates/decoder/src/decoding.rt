@@ -1,13 +1,13 @@
 // The decoding of an array that was taken: in one way, from its start to its report.
-use packed::copying::copy_cells;
 use crate::halves::transpose_erased;
 use crate::iterations::run;
 use crate::packing::pack_rows;
 use crate::report::Report;
 use crate::report::report_of;
-use packed::transpose::transpose_words;
 use field::degree::Degree;
 use field::tables::FieldTables;
+use packed::copying::copy_cells;
+use packed::transpose::transpose_words;
 ghost use mathlib.Core.Path.{_≡_};
 ghost use Prim.Native.Nat.{_*_, _≤_};
 ghost use lib.ListN.{length};

@@ -1,10 +1,10 @@
 // The decode entry: what a caller outside may use. It takes plain numbers and lent slices, and asks nothing of them.
 use crate::decoding::decode_taken;
-use line::refusals::Call;
-use line::refusals::Refusal;
 use crate::refusals::decode_test;
 use crate::report::Report;
 use field::tables::make_tables;
+use line::refusals::Call;
+use line::refusals::Refusal;
 ghost use Rattle.decoder.specs.Entries.{DecodeDone};
 
 pub enum DecodeAnswer {

@@ -2,13 +2,13 @@
 // stand packed beside it, but the promises speak of it.
 use crate::packing::line_in;
 use crate::packing::put_line;
-use packed::transpose::transpose_words;
+use extrinsic::messages::messages_of;
+use extrinsic::row::send_row;
 use field::degree::Degree;
 use field::degree::size_of;
 use field::tables::FieldTables;
-use extrinsic::messages::messages_of;
-use extrinsic::row::send_row;
 use packed::row::update_row;
+use packed::transpose::transpose_words;
 ghost use mathlib.Core.Path.{_≡_};
 ghost use mathlib.Core.Bool.{true};
 ghost use mathlib.Core.List.{List};

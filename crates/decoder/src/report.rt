@@ -1,11 +1,11 @@
 // What is told of the array that a decoding leaves.
 use crate::packing::line_in;
-use packed::transpose::transpose_words;
 use field::degree::Degree;
 use field::degree::size_of;
 use field::tables::FieldTables;
-use packed::line::count_erasures;
 use line::codeword::is_codeword;
+use packed::line::count_erasures;
+use packed::transpose::transpose_words;
 ghost use mathlib.Core.Path.{_≡_};
 ghost use mathlib.Core.List.{List};
 ghost use Prim.Native.Nat.{ℕ};

@@ -128,7 +128,6 @@ module _ (d : Degree) (ys rs : List ℕ) (f : ℕ) {y r : Line} (p : Packs (size
           ∙ reach-clause d ys rs f k (p .cells) (q .cells) hk e z (rw (← B .erased) l) in
           rw (clause-settles d ys rs f k (p .cells) (q .cells) hk, ← c) (own-cell k agreed, refl)
 
-
   -- so the mask of the cells at which it does not
   pub own-mask : (a l m c : ℕ) → Masks d ys rs f a → ((k : ℕ) → bitAt l k ≡ 0 → stays (b .one) k ≡ true) → ((k : ℕ) → bitAt m k ≡ 0 → stays (b .two) k ≡ true)
       → ((k : ℕ) → bitAt c k ≡ 0 → (eqb (b .erased) 5 && eqb (cell rs k) 2) ≡ false) → Masks d ys rs f (bitAnd a (bitOr l (bitOr m c)))

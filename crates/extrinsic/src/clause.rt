@@ -1,11 +1,11 @@
 // The clause of document 01 that settles the message at a cell.
+use field::degree::Degree;
 use line::bounded::Tried;
-use packed::side::Side;
 use packed::line::Line;
 use packed::line::cell_at;
 use packed::line::count_differences;
 use packed::line::word_cell;
-use field::degree::Degree;
+use packed::side::Side;
 ghost use mathlib.Core.Path.{_≡_};
 ghost use mathlib.Core.Bool.{_&&_, _||_, not, cond};
 ghost use mathlib.Core.List.{List};

@@ -1,13 +1,14 @@
 // The extrinsic messages of a line, and its count.
-use line::bounded::Tried;
-use line::bounded::counted;
-use packed::side::Side;
 use crate::clause::Base;
 use crate::clause::Clause;
 use crate::clause::Half;
 use crate::clause::clause_at;
 use crate::clause::half_of;
 use crate::clause::seen_at;
+use field::degree::Degree;
+use field::tables::FieldTables;
+use line::bounded::Tried;
+use line::bounded::counted;
 use line::decoding::Sent;
 use line::decoding::choose;
 use line::decoding::decode_packed;
@@ -20,8 +21,7 @@ use packed::line::fill;
 use packed::line::known_only_in;
 use packed::line::put;
 use packed::line::word_of;
-use field::degree::Degree;
-use field::tables::FieldTables;
+use packed::side::Side;
 ghost use mathlib.Core.Path.{_≡_};
 ghost use mathlib.Core.Bool.{true, false, _&&_};
 ghost use mathlib.Core.List.{List};
@@ -248,7 +248,11 @@ fn leaving(h: Half) -> u64
 {
     let t = h.tried;
     let moved = h.before ^ h.channel;
-    if h.far < Line::RADIUS { 0 } else { moved ^ (moved & (t.word ^ h.before)) }
+    if h.far < Line::RADIUS {
+        0
+    } else {
+        moved ^ (moved & (t.word ^ h.before))
+    }
 }
 
 // The cells at which a replaced line may have 6 erasures.

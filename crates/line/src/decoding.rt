@@ -1,12 +1,12 @@
 // Line decoding in the order of Algorithm 1 of source document 000.
 use crate::bounded::Tried;
 use crate::bounded::counted;
+use field::degree::Degree;
+use field::tables::FieldTables;
 use packed::line::Line;
 use packed::line::count_differences;
 use packed::line::count_erasures;
 use packed::line::fill;
-use field::degree::Degree;
-use field::tables::FieldTables;
 ghost use mathlib.Core.Path.{_≡_};
 ghost use mathlib.Core.List.{List};
 ghost use Prim.Native.Nat.{ℕ, _+_, _*_, _<_, _≤_};
