@@ -1,4 +1,4 @@
-// Counts and sums of results. They wrap, so that nothing has to be known of them; none comes near 2^64.
+// Counts, and sums of results. They wrap, so that nothing has to be known of them; no count comes near 2^64.
 use std::num::wrapping_add_u64;
 
 // One more where the fact holds.
@@ -10,8 +10,7 @@ pub fn count_if(count: u64, fact: bool) -> u64 {
     }
 }
 
-// A number made of all the numbers mixed into it so far: two runs that saw different results end, as good as surely, with
-// different sums.
+// A sum of all the numbers mixed into it so far, in their order: it tells two runs apart that saw different results.
 pub fn mix(sum: u64, value: u64) -> u64 {
     let a = wrapping_add_u64(wrapping_add_u64(sum, value), 0x9E3779B97F4A7C15);
     let b = a ^ (a >> 29);
@@ -19,33 +18,46 @@ pub fn mix(sum: u64, value: u64) -> u64 {
     c ^ (c >> 32)
 }
 
-// What a kind of test keeps: numbers by their place.
-pub const TRIED: usize = 0;
+// A kind of test keeps a tally: how many were tried, agree and differ, and the sum of their results. Places from 4 on are for
+// numbers of the test's own.
+pub const OWN: usize = 4;
 
-pub const AGREED: usize = 1;
-
-pub const SUM: usize = 2;
-// Places 3 to 15 are for numbers of a test's own.
-pub const OWN: usize = 3;
-
-pub fn tick(tally: &mut [u64; 16], place: usize) {
-    if place < 16 {
-        tally[place] = wrapping_add_u64(tally[place], 1);
-    }
+pub fn note(tally: &mut [u64; 16], agreed: bool, result: u64) {
+    tally[0] = count_if(tally[0], true);
+    tally[1] = count_if(tally[1], agreed);
+    tally[2] = count_if(tally[2], !agreed);
+    tally[3] = mix(tally[3], result);
 }
 
 pub fn tick_if(tally: &mut [u64; 16], place: usize, fact: bool) {
-    if fact {
-        tick(tally, place);
+    if place < 16 {
+        tally[place] = count_if(tally[place], fact);
     }
 }
 
-// A test more, that agreed or not.
-pub fn tally_test(tally: &mut [u64; 16], agreed: bool) {
-    tick(tally, TRIED);
-    tick_if(tally, AGREED, agreed);
+// Are all cells the same?
+pub fn same(one: &[u8], other: &[u8]) -> bool {
+    if one.len() != other.len() {
+        return false;
+    }
+    let long = one.len();
+    let mut all = true;
+    for i in 0..long {
+        all = (one[i] == other[i]) & all;
+    }
+    all
 }
 
-pub fn mix_in(tally: &mut [u64; 16], value: u64) {
-    tally[SUM] = mix(tally[SUM], value);
+fn wide(cell: u8) -> u64 {
+    cell as u64
+}
+
+// The sum of a number and of all cells.
+pub fn mix_cells(number: u64, cells: &[u8]) -> u64 {
+    let mut sum = number;
+    let long = cells.len();
+    for i in 0..long {
+        sum = mix(sum, wide(cells[i]));
+    }
+    sum
 }

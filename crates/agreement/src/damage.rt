@@ -1,8 +1,11 @@
-// Damage to one line: cells that are wrong, and cells that are unsure.
+// Damage by chance: cells that are wrong, and cells that are unsure.
+use crate::arrays::area_of;
+use crate::arrays::put_line;
+use crate::arrays::take_line;
 use crate::chance::below;
-use crate::encoding::encode_line;
-use crate::field::cells_of;
 ghost use Prim.Native.Nat.{_≤_, _<_};
+
+// ---- one line
 
 // A cell number, brought back into the line.
 fn around(n: usize, cell: usize) -> usize
@@ -13,9 +16,9 @@ fn around(n: usize, cell: usize) -> usize
 
 // The first known cell from a place on, round the end of the line, becomes unsure.
 fn erase_from(n: usize, from: usize, line: &mut [u8; 64])
-    requires { ⌜ (n ≤ 64) × (from < 64) ⌝ }
+    requires { ⌜ from < 64 ⌝ }
 {
-    for step in 0..n {
+    for step in 0..64 {
         let i = around(n, from + step);
         if line[i] != 2 {
             line[i] = 2;
@@ -25,9 +28,7 @@ fn erase_from(n: usize, from: usize, line: &mut [u8; 64])
 }
 
 // So many known cells become unsure, or all of them where there are fewer.
-pub fn erase(n: usize, many: usize, state: &mut u64, line: &mut [u8; 64])
-    requires { ⌜ n ≤ 64 ⌝ }
-{
+pub fn erase(n: usize, many: usize, state: &mut u64, line: &mut [u8; 64]) {
     for _ in 0..many {
         let from = below(state, 64);
         erase_from(n, from, line);
@@ -35,7 +36,7 @@ pub fn erase(n: usize, many: usize, state: &mut u64, line: &mut [u8; 64])
 }
 
 // The other value of a known cell.
-pub fn flipped(cell: u8) -> u8 {
+fn flipped(cell: u8) -> u8 {
     if cell == 0 {
         1
     } else if cell == 1 {
@@ -53,45 +54,96 @@ pub fn flip_some(n: usize, many: usize, state: &mut u64, line: &mut [u8; 64]) {
     }
 }
 
-// So many cells become 0, 1 or 2, by chance.
-pub fn change_some(n: usize, many: usize, state: &mut u64, line: &mut [u8; 64]) {
+// So many cells become any cell below a bound: 2 for words, 3 for lines.
+pub fn change_some(n: usize, many: usize, bound: u64, state: &mut u64, line: &mut [u8; 64]) {
     for _ in 0..many {
         let i = around(n, below(state, 64));
-        line[i] = (below(state, 3) % 3) as u8;
+        let drawn = (below(state, 6) % 6) as u8;
+        line[i] = if bound == 2 { drawn % 2 } else { drawn % 3 };
     }
-}
-
-// Every cell 0 or 1, by chance; cells past the line stay 0.
-pub fn random_word(n: usize, state: &mut u64, line: &mut [u8; 64])
-    requires { ⌜ n ≤ 64 ⌝ }
-{
-    for i in 0..n {
-        line[i] = (below(state, 2) % 2) as u8;
-    }
-}
-
-// A codeword of a message by chance.
-pub fn random_codeword(
-    degree: u64,
-    weights: &[u16; 64],
-    settings: &[usize; 4096],
-    state: &mut u64,
-    line: &mut [u8; 64],
-) {
-    random_word(cells_of(degree), state, line);
-    encode_line(degree, weights, settings, line);
 }
 
 // How many cells are to be unsure: mostly near 6, where line decoding gives up.
-pub fn some_erasures(n: usize, state: &mut u64) -> usize
+pub fn some_erasures(state: &mut u64) -> usize {
+    let kind = below(state, 8);
+    if kind == 1 { below(state, 64) } else { kind }
+}
+
+// Within the condition under which a line is restored: twice the wrong cells plus the unsure ones is below 6.
+fn damage_within(n: usize, state: &mut u64, line: &mut [u8; 64]) {
+    let wrong = below(state, 3);
+    let unsure = below(state, 6 - 2 * wrong);
+    flip_some(n, wrong, state, line);
+    erase(n, unsure, state, line);
+}
+
+// ---- an array
+
+// Kinds of damage to an array. The others are a number of wrong and of unsure cells in a line, in the mean.
+pub const KINDS: usize = 13;
+
+pub const ROWS_AT_THE_LIMIT: usize = 0;
+
+pub const COLUMNS_AT_THE_LIMIT: usize = 1;
+
+pub const ROWS_WITHIN: usize = 2;
+
+pub const SOME_ROWS_LOST: usize = 3;
+
+pub const ALL_BY_CHANCE: usize = 4;
+
+const WRONG: [usize; 16] = [0, 0, 0, 0, 0, 0, 1, 4, 1, 0, 0, 1, 2, 0, 0, 0];
+
+const UNSURE: [usize; 16] = [0, 0, 0, 0, 0, 0, 0, 0, 2, 8, 64, 5, 3, 0, 0, 0];
+
+fn damage_line(n: usize, kind: usize, i: usize, state: &mut u64, line: &mut [u8; 64]) {
+    if (kind == ROWS_AT_THE_LIMIT) | (kind == COLUMNS_AT_THE_LIMIT) {
+        erase(n, 5 + i % 3, state, line);
+    } else if (kind == ALL_BY_CHANCE) | ((kind == SOME_ROWS_LOST) & (i % 5 == 0)) {
+        change_some(n, 200, 3, state, line);
+    } else {
+        damage_within(n, state, line);
+    }
+}
+
+fn damage_lines(n: usize, kind: usize, state: &mut u64, cells: &mut [u8; 4096])
+    requires { ⌜ n ≤ 64 ⌝ }
+{
+    let columns = kind == COLUMNS_AT_THE_LIMIT;
+    for i in 0..n {
+        let mut line = [0u8; 64];
+        take_line(n, columns, i, cells, &mut line);
+        damage_line(n, kind, i, state, &mut line);
+        put_line(n, columns, i, &line, cells);
+    }
+}
+
+fn damage_cell(cell: u8, drawn: usize, wrong: usize, unsure: usize) -> u8 {
+    if drawn < wrong {
+        flipped(cell)
+    } else if drawn - wrong < unsure {
+        2
+    } else {
+        cell
+    }
+}
+
+fn scatter(n: usize, wrong: usize, unsure: usize, state: &mut u64, cells: &mut [u8; 4096])
     requires { ⌜ (0 < n) × (n ≤ 64) ⌝ }
 {
-    let kind = below(state, 8);
-    if kind == 0 {
-        0
-    } else if kind == 1 {
-        below(state, n) + 1
+    let area = area_of(n);
+    for i in 0..area {
+        let drawn = below(state, n);
+        cells[i] = damage_cell(cells[i], drawn, wrong, unsure);
+    }
+}
+
+pub fn damage_array(n: usize, kind: usize, state: &mut u64, cells: &mut [u8; 4096])
+    requires { ⌜ (0 < n) × (n ≤ 64) × (kind < 16) ⌝ }
+{
+    if kind <= ALL_BY_CHANCE {
+        damage_lines(n, kind, state, cells);
     } else {
-        kind
+        scatter(n, WRONG[kind], UNSURE[kind], state, cells);
     }
 }

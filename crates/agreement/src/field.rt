@@ -15,13 +15,6 @@ pub fn first_message_cell(degree: u64) -> usize
     if degree == 4 { 8 } else { 12 }
 }
 
-// k, the message cells of a line.
-pub fn message_cells(degree: u64) -> usize
-    ensures { λ r. ⌜ r ≤ 51 ⌝ }
-{
-    if degree == 4 { 7 } else { 51 }
-}
-
 // x times α. Bit i is the coefficient of α^i, so every bit moves up by one; where α^v comes up, α^v + α + 1, which is zero, is
 // added. The remainders change nothing: they tell the checker that an element is small.
 fn times_alpha(degree: u64, x: u16) -> u16

@@ -1,30 +1,23 @@
 // Lines with unsure cells: line decoding, one decoding per cell for the messages, and the clause that each cell of a line falls
 // under, tested from its definition. A cell is 0, 1 or 2, and 2 is unsure.
 use crate::counting::count_if;
-use crate::counting::tick;
+use crate::counting::tick_if;
 use crate::words::bounded_distance;
 use std::num::wrapping_add_u64;
 ghost use Prim.Native.Nat.{_≤_, _<_};
-
-// Bit i of a filling word, which serves cell i.
-fn filling_bit(filling: u64, i: usize) -> u8
-    requires { ⌜ i < 64 ⌝ }
-{
-    ((filling >> i) % 2) as u8
-}
 
 // The filling word of word two.
 fn opposite(filling: u64) -> u64 {
     filling ^ 0xFFFFFFFFFFFFFFFF
 }
 
-// The line with its filling bit in each unsure cell.
+// The line with its filling bit in each unsure cell: bit i of the filling word serves cell i.
 fn fill(n: usize, line: &[u8; 64], filling: u64, word: &mut [u8; 64])
     requires { ⌜ n ≤ 64 ⌝ }
 {
     for i in 0..n {
         word[i] = if line[i] == 2 {
-            filling_bit(filling, i)
+            ((filling >> i) % 2) as u8
         } else {
             line[i]
         };
@@ -256,15 +249,6 @@ fn clause_of_few(
     clause_by_reach(one, two, channel[k])
 }
 
-// 6 or more come in.
-fn clause_of_many(coming: u64, incoming_cell: u8, channel_cell: u8) -> usize {
-    if (coming == 6) & (incoming_cell == 2) & (channel_cell != 2) {
-        AFRESH
-    } else {
-        CHANNEL
-    }
-}
-
 // The clause that settles cell k: the first that fits.
 pub fn clause(
     n: usize,
@@ -279,8 +263,10 @@ pub fn clause(
     let coming = erasures(n, incoming);
     if coming < 6 {
         clause_of_few(n, weights, incoming, channel, filling, k)
+    } else if (coming == 6) & (incoming[k] == 2) & (channel[k] != 2) {
+        AFRESH
     } else {
-        clause_of_many(coming, incoming[k], channel[k])
+        CHANNEL
     }
 }
 
@@ -310,7 +296,7 @@ pub fn count(
     let mut sum: u64 = if erasures(n, incoming) < 6 { 2 } else { 0 };
     for k in 0..n {
         let fits = clause(n, weights, incoming, channel, filling, k);
-        tick(met, fits);
+        tick_if(met, fits, true);
         sum = wrapping_add_u64(sum, cost(fits));
     }
     sum

@@ -38,12 +38,6 @@ pub fn syndrome(n: usize, weights: &[u16; 64], word: &[u8; 64]) -> u16
     sum
 }
 
-pub fn is_codeword(n: usize, weights: &[u16; 64], word: &[u8; 64]) -> bool
-    requires { ⌜ n ≤ 64 ⌝ }
-{
-    syndrome(n, weights, word) == 0
-}
-
 // The first cell from a place on whose flip adds what is wanted to the syndrome; 64, which is no cell, where there is none.
 fn flip_adding(n: usize, weights: &[u16; 64], from: usize, wanted: u16) -> usize
     requires { ⌜ (n ≤ 64) × (from ≤ n) ⌝ }

@@ -5,10 +5,10 @@ use Rattle.agreement.proofs.damage.change_some.Statement.{statement}
 use Rattle.agreement.proofs.damage.change_some.Tie as tie
 
 abbrev Inv-loop : tie.InvT-loop
-Inv-loop n many state₀ line₀ counter₀ state line counter = counter ≤ many
+Inv-loop n many bound state₀ line₀ counter₀ state line counter = counter ≤ many
 
 abbrev μ-loop : tie.MeasureT-loop
-μ-loop n many state₀ line₀ counter₀ state line counter = many - counter
+μ-loop n many bound state₀ line₀ counter₀ state line counter = many - counter
 
 pub change-some-spec : {M : Type 1} → statement M
 change-some-spec =

@@ -5,10 +5,10 @@ use Rattle.agreement.proofs.damage.erase_from.Statement.{statement}
 use Rattle.agreement.proofs.damage.erase_from.Tie as tie
 
 abbrev Inv-loop : tie.InvT-loop
-Inv-loop n from line₀ step₀ line step = step ≤ n
+Inv-loop n from line₀ step₀ line step = step ≤ 64
 
 abbrev μ-loop : tie.MeasureT-loop
-μ-loop n from line₀ step₀ line step = n - step
+μ-loop n from line₀ step₀ line step = 64 - step
 
 pub erase-from-spec : {M : Type 1} → statement M
 erase-from-spec =
