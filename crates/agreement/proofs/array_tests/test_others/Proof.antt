@@ -1,0 +1,29 @@
+-- `array_tests::test_others` is safe and ends: the measure is the turns left. Assumes nothing.
+use Prim.Native.Nat.{_≤_, _-_}
+use borrow.Author.Needs.{needs}
+use Rattle.agreement.proofs.array_tests.test_others.Statement.{statement}
+use Rattle.agreement.proofs.array_tests.test_others.Tie as tie
+
+abbrev Inv-loop : tie.InvT-loop
+Inv-loop degree weights settings many encoded₀ extracted₀ rows₀ state₀ cells₀ trial₀ encoded extracted rows state cells trial = trial ≤ many
+
+abbrev μ-loop : tie.MeasureT-loop
+μ-loop degree weights settings many encoded₀ extracted₀ rows₀ state₀ cells₀ trial₀ encoded extracted rows state cells trial = many - trial
+
+pub test-others-spec : {M : Type 1} → statement M
+test-others-spec =
+    tie.close
+    (tie.spec
+    Inv-loop
+    μ-loop
+    (λ c. search needs)
+    (λ c κs. search needs)
+    (λ c κs. search needs)
+    (λ c κs. search needs)
+    (λ c κs. search needs)
+    (λ c κs. search needs)
+    (λ c κs. search needs)
+    (λ c. search needs)
+    (λ c. search needs)
+    (λ c. search needs)
+    (λ c. search needs))

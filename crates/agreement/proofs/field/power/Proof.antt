@@ -1,0 +1,24 @@
+-- `field::power` is safe and ends: the measure is the turns left. Assumes nothing.
+use Prim.Native.Nat.{_≤_, _-_}
+use borrow.Author.Needs.{needs}
+use Rattle.agreement.proofs.field.power.Statement.{statement}
+use Rattle.agreement.proofs.field.power.Tie as tie
+
+abbrev Inv-loop : tie.InvT-loop
+Inv-loop degree exponent x₀ counter₀ x counter = counter ≤ exponent
+
+abbrev μ-loop : tie.MeasureT-loop
+μ-loop degree exponent x₀ counter₀ x counter = exponent - counter
+
+pub power-spec : {M : Type 1} → statement M
+power-spec =
+    tie.close
+    (tie.spec
+    Inv-loop
+    μ-loop
+    (λ c. search needs)
+    (λ c κs. search needs)
+    (λ c. search needs)
+    (λ c. search needs)
+    (λ c. search needs)
+    (λ c. search needs))
