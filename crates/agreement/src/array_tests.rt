@@ -17,7 +17,7 @@ use crate::damage::damage_array;
 use crate::encoding::encode_array;
 use crate::encoding::extract;
 use crate::encoding::message_area;
-use crate::field::cells_of;
+use crate::powers::cells_of;
 use crate::proved;
 ghost use Prim.Native.Nat.{_≤_, _<_};
 

@@ -3,8 +3,8 @@
 use crate::arrays::place;
 use crate::arrays::put_line;
 use crate::arrays::take_line;
-use crate::field::cells_of;
-use crate::field::first_message_cell;
+use crate::powers::cells_of;
+use crate::powers::first_message_cell;
 use crate::words::syndrome;
 ghost use Prim.Native.Nat.{_≤_, _<_};
 

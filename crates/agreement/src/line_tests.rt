@@ -12,8 +12,8 @@ use crate::damage::erase;
 use crate::damage::flip_some;
 use crate::damage::some_erasures;
 use crate::encoding::encode_line;
-use crate::field::cells_of;
 use crate::lines;
+use crate::powers::cells_of;
 use crate::proved;
 use crate::words;
 

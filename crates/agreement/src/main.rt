@@ -6,10 +6,10 @@ mod chance;
 mod counting;
 mod damage;
 mod encoding;
-mod field;
 mod line_tests;
 mod lines;
 mod parts;
+mod powers;
 mod printing;
 mod proved;
 mod refusal_tests;
@@ -122,8 +122,8 @@ fn run_refusals(entry: usize, many: usize, name: &[u8]) {
 }
 
 fn main() {
-    run_degree(4, 4000, 390);
-    run_degree(6, 600, 52);
+    run_degree(4, 20000, 1560);
+    run_degree(6, 3000, 260);
     run_refusals(refusal_tests::DECODE, 1296, b"calls of decode");
     run_refusals(refusal_tests::ENCODE, 108, b"calls of encode");
     run_refusals(refusal_tests::EXTRACT, 108, b"calls of extract");

@@ -6,7 +6,7 @@ use crate::counting::note;
 use crate::counting::same;
 use crate::counting::tick_if;
 use crate::encoding::message_area;
-use crate::field::cells_of;
+use crate::powers::cells_of;
 use crate::proved;
 ghost use Prim.Native.Nat.{_≤_, _<_};
 

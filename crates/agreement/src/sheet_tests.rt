@@ -8,7 +8,7 @@ use crate::counting::same;
 use crate::counting::tick_if;
 use crate::damage::KINDS;
 use crate::damage::damage_array;
-use crate::field::cells_of;
+use crate::powers::cells_of;
 use crate::proved;
 use crate::sheets::line_byte;
 use crate::sheets::lines_long;

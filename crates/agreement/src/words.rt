@@ -2,8 +2,8 @@
 //
 // The three facts of a codeword stand side by side in one number, the syndrome: the sum of α^i in bits 0 to 5, the sum of
 // α^(3i) in bits 6 to 11, and in bit 12 whether the number of ones is odd. Each cell has a weight, which is what a one there adds.
-use crate::field::cells_of;
-use crate::field::power;
+use crate::powers::cells_of;
+use crate::powers::power;
 ghost use Prim.Native.Nat.{_≤_, _<_};
 
 // What a one at a cell adds to the syndrome. The last cell has a part in the number of ones alone.

@@ -1,8 +1,8 @@
--- `field::power` is safe and ends: the measure is the turns left. Assumes nothing.
+-- `powers::power` is safe and ends: the measure is the turns left. Assumes nothing.
 use Prim.Native.Nat.{_≤_, _-_}
 use borrow.Author.Needs.{needs}
-use Rattle.agreement.proofs.field.power.Statement.{statement}
-use Rattle.agreement.proofs.field.power.Tie as tie
+use Rattle.agreement.proofs.powers.power.Statement.{statement}
+use Rattle.agreement.proofs.powers.power.Tie as tie
 
 abbrev Inv-loop : tie.InvT-loop
 Inv-loop degree exponent x₀ counter₀ x counter = counter ≤ exponent
