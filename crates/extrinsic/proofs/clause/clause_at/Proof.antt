@@ -1,4 +1,4 @@
--- `line::clause::clause_at` meets its contract: by cases of document 01's conditions.
+-- `extrinsic::clause::clause_at` meets its contract: by cases of document 01's conditions.
 -- Assumes nothing.
 use mathlib.Core.Path.{_≡_, sym, _∙_}
 use mathlib.Core.Bool.{true, false}

@@ -1,4 +1,4 @@
--- `line::clause::first_fit` meets its contract: the tests are those of the definition, in its order.
+-- `extrinsic::clause::first_fit` meets its contract: the tests are those of the definition, in its order.
 -- Assumes nothing.
 use Rattle.extrinsic.proofs.clause.first_fit.Statement.{statement}
 use Rattle.extrinsic.proofs.clause.first_fit.Tie as tie

@@ -1,4 +1,4 @@
--- `line::clause::half_of` meets its contract: the distance is counted once, from the filled word to what it gave.
+-- `extrinsic::clause::half_of` meets its contract: the distance is counted once, from the filled word to what it gave.
 -- Assumes nothing.
 use borrow.Author.Needs.{needs}
 use Rattle.field.specs.Degree.{size}

@@ -1,4 +1,4 @@
--- `line::clause::seen_at` meets its contract: each part is read off the packed words.
+-- `extrinsic::clause::seen_at` meets its contract: each part is read off the packed words.
 -- Assumes nothing.
 use mathlib.Core.Path.{_≡_, _∙_}
 use mathlib.Core.List.{List}

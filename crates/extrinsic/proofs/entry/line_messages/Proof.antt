@@ -1,4 +1,4 @@
--- `line::entry::line_messages` meets its contract: a call that is taken is answered by `send_taken`, one that is refused leaves
+-- `extrinsic::entry::line_messages` meets its contract: a call that is taken is answered by `send_taken`, one that is refused leaves
 -- all as it came.
 -- Assumes nothing.
 use mathlib.Core.Path.{sym, _∙_}

@@ -1,4 +1,4 @@
--- `line::entry::messages_test` meets its contract: the degree is tested first, then what `shape_test` tests.
+-- `extrinsic::entry::messages_test` meets its contract: the degree is tested first, then what `shape_test` tests.
 -- Assumes nothing.
 use mathlib.Core.Path.{sym, _∙_}
 use borrow.Author.Needs.{needs}

@@ -1,4 +1,4 @@
--- `line::entry::send_taken` meets its contract: both lines are packed, and what is sent is unpacked.
+-- `extrinsic::entry::send_taken` meets its contract: both lines are packed, and what is sent is unpacked.
 -- Assumes nothing.
 use mathlib.Core.Path.{sym}
 use borrow.Author.Needs.{needs}

@@ -1,4 +1,4 @@
--- `line::messages::answer_at` meets its contract: the cell of the line that is given back.
+-- `extrinsic::messages::answer_at` meets its contract: the cell of the line that is given back.
 -- Assumes nothing.
 use borrow.Author.Needs.{needs}
 use Rattle.extrinsic.proofs.messages.answer_at.Statement.{statement}

@@ -1,4 +1,4 @@
--- `line::messages::base_of` meets its contract: with 6 or more erasures the messages start from the channel line.
+-- `extrinsic::messages::base_of` meets its contract: with 6 or more erasures the messages start from the channel line.
 -- Assumes nothing.
 use mathlib.Core.Path.{_≡_, sym, _∙_}
 use mathlib.Core.Bool.{true≢false}

@@ -1,4 +1,4 @@
--- `line::messages::choose_with` meets its contract: by cases of the side.
+-- `extrinsic::messages::choose_with` meets its contract: by cases of the side.
 -- Assumes nothing.
 use borrow.Author.Needs.{needs}
 use Rattle.extrinsic.proofs.messages.choose_with.Statement.{statement}

@@ -1,4 +1,4 @@
--- `line::messages::few_base` meets its contract: both fillings are decoded, and the choice of them is the line's own decoding.
+-- `extrinsic::messages::few_base` meets its contract: both fillings are decoded, and the choice of them is the line's own decoding.
 -- Assumes nothing.
 use native.Mathlib.Omega.{arith}
 use borrow.Author.Needs.{needs}

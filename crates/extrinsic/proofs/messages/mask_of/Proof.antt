@@ -1,4 +1,4 @@
--- `line::messages::mask_of` meets its contract: the cells left out are equal ones, or those settled by the channel.
+-- `extrinsic::messages::mask_of` meets its contract: the cells left out are equal ones, or those settled by the channel.
 -- Assumes nothing.
 use borrow.Author.Needs.{needs}
 use Rattle.extrinsic.proofs.Masking.{few-mask, six-mask, more-mask}

@@ -1,4 +1,4 @@
--- `line::messages::message_at` meets its contract: the clause gives the message.
+-- `extrinsic::messages::message_at` meets its contract: the clause gives the message.
 -- Assumes nothing.
 use borrow.Author.Needs.{needs}
 use Rattle.extrinsic.proofs.Settling.{settled-message}

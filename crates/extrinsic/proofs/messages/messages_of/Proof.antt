@@ -1,4 +1,4 @@
--- `line::messages::messages_of` meets its contract: the cells that are not left in the mask hold their messages, and the count lacks the costs of those that are.
+-- `extrinsic::messages::messages_of` meets its contract: the cells that are not left in the mask hold their messages, and the count lacks the costs of those that are.
 -- Assumes nothing.
 use mathlib.Core.Path.{_≡_, subst}
 use mathlib.Core.List.{List}

@@ -1,4 +1,4 @@
--- `line::messages::near_only` meets its contract: what was found counts where it is in reach.
+-- `extrinsic::messages::near_only` meets its contract: what was found counts where it is in reach.
 -- Assumes nothing.
 use mathlib.Core.Path.{refl}
 use borrow.Author.Needs.{needs}

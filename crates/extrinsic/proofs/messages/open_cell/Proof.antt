@@ -1,4 +1,4 @@
--- `line::messages::open_cell` meets its contract: one filling is decoded once more, the other counts where it is in reach.
+-- `extrinsic::messages::open_cell` meets its contract: one filling is decoded once more, the other counts where it is in reach.
 -- Assumes nothing.
 use borrow.Author.Needs.{needs}
 use Rattle.field.specs.Degree.{size}

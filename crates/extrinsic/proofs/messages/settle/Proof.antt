@@ -1,4 +1,4 @@
--- `line::messages::settle` meets its contract: by cases of the clause.
+-- `extrinsic::messages::settle` meets its contract: by cases of the clause.
 -- Assumes nothing.
 use mathlib.Core.Path.{_≡_, refl, sym, _∙_}
 use mathlib.Core.List.{List}

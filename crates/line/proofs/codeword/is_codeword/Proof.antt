@@ -1,4 +1,4 @@
--- `line::row::is_codeword` meets its contract: the check sums of the packed word are those of its cells.
+-- `line::codeword::is_codeword` meets its contract: the check sums of the packed word are those of its cells.
 -- Assumes nothing.
 use borrow.Author.Needs.{needs}
 use Rattle.line.specs.Codeword.{isCodeword}

@@ -1,4 +1,4 @@
--- `entry::try_packed` meets its contract: both filled words are tried, and the choice of the two answers is the line's; with
+-- `line::decoding::try_packed` meets its contract: both filled words are tried, and the choice of the two answers is the line's; with
 -- 6 or more erasures it fails.
 -- Assumes nothing.
 use mathlib.Core.Path.{refl}

@@ -1,4 +1,4 @@
--- `line::entry::line_test` meets its contract: the degree is tested first, then what `shape_test` tests.
+-- `line::refusals::line_test` meets its contract: the degree is tested first, then what `shape_test` tests.
 -- Assumes nothing.
 use mathlib.Core.Path.{sym, _∙_}
 use borrow.Author.Needs.{needs}

@@ -1,4 +1,4 @@
--- `line::entry::shape_test` meets its contract: the tests are the definition's, in its order.
+-- `line::refusals::shape_test` meets its contract: the tests are the definition's, in its order.
 -- Assumes nothing.
 use borrow.Author.Tests.{not-true, not-false}
 use Rattle.line.proofs.refusals.shape_test.Statement.{statement}

@@ -1,4 +1,4 @@
--- `line::packed::cell_at` meets its contract: bit k of the ones and twice bit k of the erased are the cell.
+-- `packed::line::cell_at` meets its contract: bit k of the ones and twice bit k of the erased are the cell.
 -- Assumes nothing.
 use native.Mathlib.Omega.{arith}
 use borrow.Author.Needs.{needs}

@@ -1,4 +1,4 @@
--- `line::packed::count_differences` meets its contract: the ones of the xor under the known mask are the differences.
+-- `packed::line::count_differences` meets its contract: the ones of the xor under the known mask are the differences.
 -- Assumes nothing.
 use Rattle.packed.proofs.Packing.{differences-of}
 use Rattle.packed.proofs.line.count_differences.Statement.{statement}

@@ -1,4 +1,4 @@
--- `line::packed::count_erasures` meets its contract: the ones of the erased word are the erasures.
+-- `packed::line::count_erasures` meets its contract: the ones of the erased word are the erasures.
 -- Assumes nothing.
 use native.Mathlib.Omega.{arith}
 use lib.Count.{ones-le}

@@ -1,4 +1,4 @@
--- `line::packed::fill` meets its contract: the filling's bits go where the erased bits are; word two has them turned.
+-- `packed::line::fill` meets its contract: the filling's bits go where the erased bits are; word two has them turned.
 -- Assumes nothing.
 use Rattle.packed.specs.declared.side.Side.the-variants.{One, Two}
 use Rattle.packed.proofs.Packing.{filled-one, filled-two}

@@ -1,4 +1,4 @@
--- `line::packed::flip_bit` meets its contract: a flip turns the one bit that packs the cell.
+-- `packed::line::flip_bit` meets its contract: a flip turns the one bit that packs the cell.
 -- Assumes nothing.
 use borrow.Author.Needs.{needs}
 use Rattle.packed.proofs.Packing.{flip-packed}

@@ -1,4 +1,4 @@
--- `line::packed::pack` meets its contract: the cells passed are packed, eight more a turn.
+-- `packed::line::pack` meets its contract: the cells passed are packed, eight more a turn.
 -- Assumes nothing.
 use mathlib.Core.Path.{_≡_, refl}
 use Prim.Native.Nat.{_≤_, _+_, _-_, _%_}

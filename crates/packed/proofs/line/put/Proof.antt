@@ -1,4 +1,4 @@
--- `line::packed::put` meets its contract: both words get their bit of the new cell.
+-- `packed::line::put` meets its contract: both words get their bit of the new cell.
 -- Assumes nothing.
 use borrow.Author.Needs.{needs}
 use Rattle.packed.proofs.Packing.{put-cell}

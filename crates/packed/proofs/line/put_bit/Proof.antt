@@ -1,4 +1,4 @@
--- `line::packed::put_bit` meets its contract: the bit is turned where it differs.
+-- `packed::line::put_bit` meets its contract: the bit is turned where it differs.
 -- Assumes nothing.
 use mathlib.Core.Path.{_≡_, ap}
 use Prim.Native.Nat.{ℕ, _/_, _%_, _^_}

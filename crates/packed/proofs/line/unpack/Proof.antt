@@ -1,4 +1,4 @@
--- `line::packed::unpack` meets its contract: the cells passed are those that the words say, eight more a turn.
+-- `packed::line::unpack` meets its contract: the cells passed are those that the words say, eight more a turn.
 -- Assumes nothing.
 use mathlib.Core.Path.{_≡_, refl, ap, sym, _∙_}
 use mathlib.Core.List.{_++_, append-nil}

@@ -1,4 +1,4 @@
--- `line::packed::word_cell` meets its contract: bit k of a packed word is its cell k.
+-- `packed::line::word_cell` meets its contract: bit k of a packed word is its cell k.
 -- Assumes nothing.
 use mathlib.Core.Path.{_∙_}
 use borrow.Author.Needs.{needs}

@@ -1,4 +1,4 @@
--- `line::packed::word_of` meets its contract: by cases of the side.
+-- `packed::line::word_of` meets its contract: by cases of the side.
 -- Assumes nothing.
 use borrow.Author.Needs.{needs}
 use Rattle.packed.proofs.line.word_of.Statement.{statement}

@@ -1,4 +1,4 @@
--- `line::row::update_row` meets its contract: a row that is not written holds the new line already, since a line packs one list only.
+-- `packed::row::update_row` meets its contract: a row that is not written holds the new line already, since a line packs one list only.
 -- Assumes nothing.
 use mathlib.Core.Path.{refl, sym}
 use borrow.Author.Needs.{needs}
