@@ -28,7 +28,8 @@ use Rattle.decoder.specs.declared.entry.DecodeAnswer.the-variants as ans
 use Rattle.decoder.specs.Refusals.{counted, fitting, tested, decodeTested, decodeCall}
 use Rattle.line.specs.Refusals.{atMost}
 use Rattle.decoder.specs.Entries.{DecodeDone}
-use Rattle.decoder.specs.Steps.{IsArray, Decoded}
+use Rattle.halves.specs.Steps.{IsArray}
+use Rattle.decoder.specs.Steps.{Decoded}
 use Rattle.decoder.proofs.SentArrays.{sent-theorem}
 
 -- ---- the lengths fit a number; n is the code's number for `size d`

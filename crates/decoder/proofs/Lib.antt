@@ -1,5 +1,3 @@
-pub mod PackedLaws
-pub mod HalfLaws
 pub mod RunLaws
 pub mod ReportLaws
 pub mod EntryLaws

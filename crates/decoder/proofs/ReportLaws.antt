@@ -24,9 +24,10 @@ use Rattle.decoder.specs.declared.report.Report.{Report}
 use Rattle.packed.specs.Arrays.{line, transpose}
 use Rattle.packed.specs.PackedRows.{Words, Turned}
 use Rattle.decoder.specs.Plain.{plain, closed}
-use Rattle.decoder.specs.Steps.{IsFull, Held, RunDone, Told, Decoded}
+use Rattle.halves.specs.Steps.{Held}
+use Rattle.decoder.specs.Steps.{IsFull, RunDone, Told, Decoded}
 use Rattle.packed.proofs.ArrayLaws.{line-cells, transpose-cells}
-use Rattle.decoder.proofs.PackedLaws.{held-line, held-turned}
+use Rattle.halves.proofs.PackedLaws.{held-line, held-turned}
 use Rattle.packed.proofs.WordLaws.{words-turned}
 
 -- ---- erasures, a line a turn

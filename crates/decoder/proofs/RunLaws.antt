@@ -12,7 +12,8 @@ use Rattle.field.specs.declared.degree.Degree.{Degree}
 use Rattle.field.specs.Degree.{size}
 use Rattle.packed.proofs.RowLaws.{size-room}
 use Rattle.decoder.specs.Plain.{plain, plainCount}
-use Rattle.decoder.specs.Steps.{Held, RowsDone, ColumnsDone, IterationDone, RunDone}
+use Rattle.halves.specs.Steps.{Held, RowsDone, ColumnsDone}
+use Rattle.decoder.specs.Steps.{IterationDone, RunDone}
 
 -- the rest of a slice from a place on, as a lent part gives it
 tail : (k : ℕ) (w : List ℕ) → take (length w - k) (drop k w) ≡ drop k w

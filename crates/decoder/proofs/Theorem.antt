@@ -23,7 +23,8 @@ use Rattle.line.proofs.Distances.{is-codeword}
 use Rattle.line.proofs.LineLaw.{messages-line, codeword-messages, received-messages}
 use Rattle.extrinsic.proofs.CountLaws.{count-le}
 use Rattle.packed.specs.Arrays.{line, lines, transpose, column}
-use Rattle.decoder.specs.Plain.{rowHalf, columnHalf, plain, rowCount, columnCount, plainCount, closed, RowCondition}
+use Rattle.halves.specs.Halves.{rowHalf, columnHalf, rowCount, columnCount}
+use Rattle.decoder.specs.Plain.{plain, plainCount, closed, RowCondition}
 use Rattle.array.specs.Encoding.{ProductCodeword}
 use Rattle.packed.proofs.ArrayLaws.{Even, each-cell, line-at, line-cells, transpose-cells, length-transpose, transpose-transpose, length-lines, line-lines, lines-are}
 

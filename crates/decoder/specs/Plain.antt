@@ -4,47 +4,28 @@ use mathlib.Core.Bool.{Bool, _&&_}
 use mathlib.Core.List.{List}
 use Prim.Native.Nat.{ℕ, zero, suc, _+_, _*_, _<_}
 use lib.Dec.{eqb}
-use lib.ListN.{drop, getD}
-use Rattle.laws.specs.Sums.{sumTo}
+use lib.ListN.{drop}
 use Rattle.laws.specs.Tests.{every}
 use Rattle.field.specs.declared.degree.Degree.{Degree}
 use Rattle.field.specs.Degree.{size}
 use Rattle.packed.specs.Cells.{erasures, distance}
 use Rattle.line.specs.Codeword.{isCodeword}
-use Rattle.line.specs.Bounded.{bounded}
-use Rattle.line.specs.Decoding.{messages}
-use Rattle.extrinsic.specs.Clauses.{count}
-use Rattle.packed.specs.Arrays.{line, lines, transpose, column}
+use Rattle.packed.specs.Arrays.{line, column}
+use Rattle.halves.specs.Halves.{rowHalf, columnHalf, rowCount, columnCount}
 
 module _ (d : Degree) where
-  -- a half by rows: each cell k of each line i by one decoding of line i of m with that one cell put back to what the receiver
-  -- gave (`messages`), with the next filling word
-  unfoldable pub rowHalf : List ℕ → List ℕ → List ℕ → List ℕ
-  rowHalf m r w = lines (λ i. messages (bounded d) (line (size d) m i) (line (size d) r i) (getD w i 0)) (size d)
-
-  -- a half by columns
-  unfoldable pub columnHalf : List ℕ → List ℕ → List ℕ → List ℕ
-  columnHalf m r w = transpose (size d) (size d) (rowHalf (transpose (size d) (size d) m) (transpose (size d) (size d) r) w)
-
   -- l iterations, each a row half and then a column half, the filling words in order of halves and lines
   unfoldable pub plain : ℕ → List ℕ → List ℕ → List ℕ → List ℕ
   plain zero m r w = m
   plain (suc l) m r w =
-      plain l (columnHalf (rowHalf m r w) r (drop (size d) w)) r (drop (size d + size d) w)
-
-  -- the counts of the lines of a half, as the plain decoding meets them
-  unfoldable pub rowCount : List ℕ → List ℕ → List ℕ → ℕ
-  rowCount m r w = sumTo (λ i. count (bounded d) (line (size d) m i) (line (size d) r i) (getD w i 0)) (size d)
-
-  unfoldable pub columnCount : List ℕ → List ℕ → List ℕ → ℕ
-  columnCount m r w = rowCount (transpose (size d) (size d) m) (transpose (size d) (size d) r) w
+      plain l (columnHalf d (rowHalf d m r w) r (drop (size d) w)) r (drop (size d + size d) w)
 
   -- the sum over all 2 l n lines
   unfoldable pub plainCount : ℕ → List ℕ → List ℕ → List ℕ → ℕ
   plainCount zero m r w = 0
   plainCount (suc l) m r w =
-      rowCount m r w + columnCount (rowHalf m r w) r (drop (size d) w)
-      + plainCount l (columnHalf (rowHalf m r w) r (drop (size d) w)) r (drop (size d + size d) w)
+      rowCount d m r w + columnCount d (rowHalf d m r w) r (drop (size d) w)
+      + plainCount l (columnHalf d (rowHalf d m r w) r (drop (size d) w)) r (drop (size d + size d) w)
 
   -- closed: no cell unsure and every column a codeword
   unfoldable pub closed : List ℕ → Bool

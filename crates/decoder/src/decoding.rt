@@ -1,11 +1,11 @@
 // The decoding of an array that was taken: in one way, from its start to its report.
-use crate::halves::transpose_erased;
 use crate::iterations::run;
-use crate::packing::pack_rows;
 use crate::report::Report;
 use crate::report::report_of;
 use field::degree::Degree;
 use field::tables::FieldTables;
+use halves::halves::transpose_erased;
+use halves::packing::pack_rows;
 use packed::copying::copy_cells;
 use packed::transpose::transpose_words;
 ghost use mathlib.Core.Path.{_≡_};
@@ -13,7 +13,8 @@ ghost use Prim.Native.Nat.{_*_, _≤_};
 ghost use lib.ListN.{length};
 ghost use Rattle.field.specs.Degree.{size};
 ghost use Rattle.field.specs.Tables.{Tables};
-ghost use Rattle.decoder.specs.Steps.{IsArray, Decoded};
+ghost use Rattle.halves.specs.Steps.{IsArray};
+ghost use Rattle.decoder.specs.Steps.{Decoded};
 
 // Messages start as the channel's. The channel's rows and columns are packed once, for all iterations.
 pub fn decode_taken(

@@ -1,16 +1,17 @@
 // The iterations of a decoding: each a row half and then a column half, with the filling words in order of halves and lines.
-use crate::halves::column_half;
-use crate::halves::row_half;
 use field::degree::Degree;
 use field::degree::size_of;
 use field::tables::FieldTables;
+use halves::halves::column_half;
+use halves::halves::row_half;
 ghost use mathlib.Core.Path.{_≡_};
 ghost use Prim.Native.Nat.{_+_, _*_, _≤_};
 ghost use lib.ListN.{length};
 ghost use Rattle.field.specs.Degree.{size};
 ghost use Rattle.field.specs.Tables.{Tables};
 ghost use Rattle.packed.specs.Arrays.{transpose};
-ghost use Rattle.decoder.specs.Steps.{Held, IterationDone, RunDone};
+ghost use Rattle.halves.specs.Steps.{Held};
+ghost use Rattle.decoder.specs.Steps.{IterationDone, RunDone};
 
 fn iterate(
     d: Degree,

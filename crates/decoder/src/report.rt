@@ -1,8 +1,8 @@
 // What is told of the array that a decoding leaves.
-use crate::packing::line_in;
 use field::degree::Degree;
 use field::degree::size_of;
 use field::tables::FieldTables;
+use halves::packing::line_in;
 use line::codeword::is_codeword;
 use packed::line::count_erasures;
 use packed::transpose::transpose_words;
@@ -16,7 +16,8 @@ ghost use Rattle.packed.specs.Cells.{isOne, erasures as erasuresIn};
 ghost use Rattle.line.specs.Codeword.{isCodeword};
 ghost use Rattle.packed.specs.Arrays.{line};
 ghost use Rattle.packed.specs.PackedRows.{Words};
-ghost use Rattle.decoder.specs.Steps.{IsFull, Held, Told};
+ghost use Rattle.halves.specs.Steps.{Held};
+ghost use Rattle.decoder.specs.Steps.{IsFull, Told};
 
 // The count of decodings, the cells still unsure, and whether the array is closed.
 pub struct Report {

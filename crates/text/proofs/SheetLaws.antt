@@ -29,7 +29,8 @@ use Rattle.decoder.specs.Entries.{DecodeDone, refusalOf, countOf, erasuresOf, c
 use Rattle.line.specs.Refusals.{number, refusalIn, atMost}
 use Rattle.decoder.specs.Refusals.{decodeCall}
 use Rattle.decoder.specs.Plain.{plain, plainCount, closed}
-use Rattle.decoder.specs.Steps.{IsArray, Decoded}
+use Rattle.halves.specs.Steps.{IsArray}
+use Rattle.decoder.specs.Steps.{Decoded}
 use Rattle.packed.proofs.ArrayLaws.{length-lines, line-lines, line-at, each-cell}
 use Rattle.text.specs.Text.{byte, firstLine, placed, shaped, known, cellOf, cellsOf, zeros, reportText, refusalText, decodedText, sheetText}
 use Rattle.text.proofs.WritingLaws.{cells-even}

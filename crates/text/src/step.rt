@@ -8,7 +8,8 @@ ghost use mathlib.Core.Path.{_≡_};
 ghost use Prim.Native.Nat.{_*_};
 ghost use lib.ListN.{length};
 ghost use Rattle.field.specs.Degree.{bits, size};
-ghost use Rattle.decoder.specs.Steps.{IsArray, Decoded};
+ghost use Rattle.halves.specs.Steps.{IsArray};
+ghost use Rattle.decoder.specs.Steps.{Decoded};
 ghost use Rattle.text.specs.Text.{zeros};
 
 fn number_of(d: Degree) -> u64

@@ -3,7 +3,7 @@
 -- Assumes nothing.
 use mathlib.Core.Path.{sym, _∙_}
 use Rattle.packed.specs.Cells.{isOne, isErased}
-use Rattle.decoder.proofs.PackedLaws.{zeros}
+use Rattle.halves.proofs.PackedLaws.{zeros}
 use Rattle.decoder.proofs.ReportLaws.{run-ready, decoded}
 use borrow.Author.Needs.{needs}
 use Rattle.decoder.proofs.decoding.decode_taken.Statement.{statement}

@@ -4,7 +4,7 @@
 use Prim.Native.Nat.{_-_}
 use native.Mathlib.Omega.{arith}
 use borrow.Author.Needs.{needs}
-use Rattle.decoder.proofs.PackedLaws.{index-room}
+use Rattle.halves.proofs.PackedLaws.{index-room}
 use Rattle.decoder.proofs.ReportLaws.{Testing, testing-start, testing-next, testing-end}
 use Rattle.decoder.proofs.report.all_codewords.Statement.{statement}
 use Rattle.decoder.proofs.report.all_codewords.Tie as tie

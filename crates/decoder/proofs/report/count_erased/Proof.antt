@@ -4,7 +4,7 @@
 use Prim.Native.Nat.{_-_}
 use native.Mathlib.Omega.{arith}
 use borrow.Author.Needs.{needs}
-use Rattle.decoder.proofs.PackedLaws.{index-room}
+use Rattle.halves.proofs.PackedLaws.{index-room}
 use Rattle.decoder.proofs.ReportLaws.{Counting, counting-start, counting-next, counting-end}
 use Rattle.decoder.proofs.report.count_erased.Statement.{statement}
 use Rattle.decoder.proofs.report.count_erased.Tie as tie

@@ -1,10 +1,10 @@
 -- `halves::transpose_erased` meets its contract: words that are 0 are their own transpose.
 -- Assumes nothing.
 use borrow.Author.Tests.{not-false}
-use Rattle.decoder.proofs.PackedLaws.{blank-turned}
+use Rattle.halves.proofs.PackedLaws.{blank-turned}
 use borrow.Author.Needs.{needs}
-use Rattle.decoder.proofs.halves.transpose_erased.Statement.{statement}
-use Rattle.decoder.proofs.halves.transpose_erased.Tie as tie
+use Rattle.halves.proofs.halves.transpose_erased.Statement.{statement}
+use Rattle.halves.proofs.halves.transpose_erased.Tie as tie
 
 all-zero-requires : tie.Need-all-zero-requires
 all-zero-requires c κs = search needs

@@ -20,7 +20,7 @@ use Rattle.packed.specs.declared.line.Line.{Line}
 use Rattle.packed.proofs.RowLaws.{size-room, size-eights}
 use Rattle.packed.specs.Arrays.{line, transpose}
 use Rattle.packed.specs.PackedRows.{Words, Turned}
-use Rattle.decoder.specs.Steps.{IsArray, Held}
+use Rattle.halves.specs.Steps.{IsArray, Held}
 use Rattle.packed.proofs.ArrayLaws.{line-room, line-cells, transpose-cells, each-cell, line-at}
 use Rattle.packed.proofs.WordLaws.{words-turned}
 

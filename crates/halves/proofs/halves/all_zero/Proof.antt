@@ -4,9 +4,9 @@ use Prim.Native.Nat.{_-_, _≤_}
 use mathlib.Core.Path.{_≡_}
 use native.Mathlib.Omega.{arith}
 use borrow.Author.Tests.{eqb-true}
-use Rattle.decoder.proofs.PackedLaws.{Blank, blank-next}
-use Rattle.decoder.proofs.halves.all_zero.Statement.{statement}
-use Rattle.decoder.proofs.halves.all_zero.Tie as tie
+use Rattle.halves.proofs.PackedLaws.{Blank, blank-next}
+use Rattle.halves.proofs.halves.all_zero.Statement.{statement}
+use Rattle.halves.proofs.halves.all_zero.Tie as tie
 
 abbrev Inv-loop : tie.InvT-loop
 Inv-loop a any₀ i₀ any i = (i ≤ 64) × (any ≡ 0 → Blank a i)

@@ -4,9 +4,9 @@ use Prim.Native.Nat.{_+_, _-_, _≤_}
 use native.Mathlib.Omega.{arith}
 use lib.ListN.{length}
 use borrow.Author.Needs.{needs}
-use Rattle.decoder.proofs.PackedLaws.{Packing, index-room, packing-start, packing-room, packing-lent, packing-next, packing-end}
-use Rattle.decoder.proofs.packing.pack_rows.Statement.{statement}
-use Rattle.decoder.proofs.packing.pack_rows.Tie as tie
+use Rattle.halves.proofs.PackedLaws.{Packing, index-room, packing-start, packing-room, packing-lent, packing-next, packing-end}
+use Rattle.halves.proofs.packing.pack_rows.Statement.{statement}
+use Rattle.halves.proofs.packing.pack_rows.Tie as tie
 
 abbrev Inv-loop : tie.InvT-loop
 Inv-loop received ones₀ erased₀ n i₀ at₀ ones erased i at = Packing n received ones erased i at

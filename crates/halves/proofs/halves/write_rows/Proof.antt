@@ -6,10 +6,10 @@ use mathlib.Core.Path.{sym, _∙_}
 use native.Mathlib.Omega.{arith}
 use lib.ListN.{length}
 use borrow.Author.Needs.{needs}
-use Rattle.decoder.proofs.PackedLaws.{index-room}
-use Rattle.decoder.proofs.HalfLaws.{Writing, writing-start, writing-room, writing-lent, writing-next, writing-end}
-use Rattle.decoder.proofs.halves.write_rows.Statement.{statement}
-use Rattle.decoder.proofs.halves.write_rows.Tie as tie
+use Rattle.halves.proofs.PackedLaws.{index-room}
+use Rattle.halves.proofs.HalfLaws.{Writing, writing-start, writing-room, writing-lent, writing-next, writing-end}
+use Rattle.halves.proofs.halves.write_rows.Statement.{statement}
+use Rattle.halves.proofs.halves.write_rows.Tie as tie
 
 abbrev Inv-loop : tie.InvT-loop
 Inv-loop cells₀ oldones olderased ones erased n i₀ at₀ cells i at = Writing n cells₀ oldones olderased ones erased cells i at

@@ -17,9 +17,9 @@ ghost use lib.ListN.{length, getD};
 ghost use Rattle.field.specs.Degree.{size};
 ghost use Rattle.field.specs.Tables.{Tables};
 ghost use Rattle.packed.specs.Arrays.{transpose};
-ghost use Rattle.decoder.specs.Plain.{rowHalf};
+ghost use Rattle.halves.specs.Halves.{rowHalf};
 ghost use Rattle.packed.specs.PackedRows.{Turned};
-ghost use Rattle.decoder.specs.Steps.{Held, RowsDone, ColumnsDone};
+ghost use Rattle.halves.specs.Steps.{Held, RowsDone, ColumnsDone};
 
 // ---- rows
 

@@ -1,10 +1,10 @@
 -- `halves::column_half` meets its contract: a row half of the transposed array, transposed back.
 -- Assumes nothing.
-use Rattle.decoder.proofs.PackedLaws.{held-turned}
-use Rattle.decoder.proofs.HalfLaws.{columns-done}
+use Rattle.halves.proofs.PackedLaws.{held-turned}
+use Rattle.halves.proofs.HalfLaws.{columns-done}
 use borrow.Author.Needs.{needs}
-use Rattle.decoder.proofs.halves.column_half.Statement.{statement}
-use Rattle.decoder.proofs.halves.column_half.Tie as tie
+use Rattle.halves.proofs.halves.column_half.Statement.{statement}
+use Rattle.halves.proofs.halves.column_half.Tie as tie
 
 transpose-words-requires : tie.Need-transpose-words-requires
 transpose-words-requires c κs = search needs

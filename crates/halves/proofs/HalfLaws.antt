@@ -26,10 +26,10 @@ use Rattle.extrinsic.proofs.CountLaws.{count-le}
 use Rattle.packed.proofs.RowLaws.{size-room, size-eights}
 use Rattle.packed.specs.Arrays.{line, lines, transpose}
 use Rattle.packed.specs.PackedRows.{Turned}
-use Rattle.decoder.specs.Plain.{rowHalf, rowCount, columnHalf, columnCount}
-use Rattle.decoder.specs.Steps.{IsArray, Held, RowsDone, ColumnsDone}
+use Rattle.halves.specs.Halves.{rowHalf, rowCount, columnHalf, columnCount}
+use Rattle.halves.specs.Steps.{IsArray, Held, RowsDone, ColumnsDone}
 use Rattle.packed.proofs.ArrayLaws.{Even, length-lines, line-cells}
-use Rattle.decoder.proofs.PackedLaws.{put, put-drop, put-take, put-length, row-room, held-line, held-put, held-turned}
+use Rattle.halves.proofs.PackedLaws.{put, put-drop, put-take, put-length, row-room, held-line, held-put, held-turned}
 
 -- ---- the first lines of an array replaced
 

@@ -10,7 +10,7 @@ ghost use lib.ListN.{getD, set};
 ghost use Rattle.field.specs.Degree.{size};
 ghost use Rattle.packed.specs.Cells.{isOne, isErased};
 ghost use Rattle.packed.specs.PackedRows.{Words};
-ghost use Rattle.decoder.specs.Steps.{IsArray, Held};
+ghost use Rattle.halves.specs.Steps.{IsArray, Held};
 
 // Line i of packed lines.
 pub fn line_in(ones: &[u64; 64], erased: &[u64; 64], i: usize) -> Line

@@ -6,10 +6,10 @@ use native.Mathlib.Omega.{arith}
 use borrow.Author.Needs.{needs}
 use Rattle.field.specs.Degree.{size}
 use Rattle.packed.specs.Arrays.{transpose}
-use Rattle.decoder.proofs.PackedLaws.{index-room}
-use Rattle.decoder.proofs.HalfLaws.{ColumnsAt, columns-start, columns-next, columns-end}
-use Rattle.decoder.proofs.halves.send_columns.Statement.{statement}
-use Rattle.decoder.proofs.halves.send_columns.Tie as tie
+use Rattle.halves.proofs.PackedLaws.{index-room}
+use Rattle.halves.proofs.HalfLaws.{ColumnsAt, columns-start, columns-next, columns-end}
+use Rattle.halves.proofs.halves.send_columns.Statement.{statement}
+use Rattle.halves.proofs.halves.send_columns.Tie as tie
 
 abbrev Inv-loop : tie.InvT-loop
 Inv-loop d cells received colones colerased ones₀ erased₀ filling tables n count₀ j₀ ones erased count j =

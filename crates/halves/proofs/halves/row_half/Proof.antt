@@ -6,10 +6,10 @@ use mathlib.Core.Path.{sym, _∙_}
 use native.Mathlib.Omega.{arith}
 use lib.ListN.{length}
 use borrow.Author.Needs.{needs}
-use Rattle.decoder.proofs.PackedLaws.{index-room}
-use Rattle.decoder.proofs.HalfLaws.{HalfAt, half-start, half-room, half-lent, half-row, half-end}
-use Rattle.decoder.proofs.halves.row_half.Statement.{statement}
-use Rattle.decoder.proofs.halves.row_half.Tie as tie
+use Rattle.halves.proofs.PackedLaws.{index-room}
+use Rattle.halves.proofs.HalfLaws.{HalfAt, half-start, half-room, half-lent, half-row, half-end}
+use Rattle.halves.proofs.halves.row_half.Statement.{statement}
+use Rattle.halves.proofs.halves.row_half.Tie as tie
 
 abbrev Inv-loop : tie.InvT-loop
 Inv-loop d cells₀ received rowones rowerased ones₀ erased₀ filling tables n count₀ i₀ at₀ cells ones erased count i at =
