@@ -13,6 +13,7 @@ use crate::counting::note;
 use crate::counting::same;
 use crate::counting::tick_if;
 use crate::damage::KINDS;
+use crate::damage::ROWS_WITHIN;
 use crate::damage::damage_array;
 use crate::encoding::encode_array;
 use crate::encoding::extract;
@@ -81,7 +82,8 @@ fn same_arrays(one: &[u8; 4096], other: &[u8; 4096]) -> bool {
     same(one, other)
 }
 
-// Decodes a received array twice. Besides, how many are closed, and in how many the sent array came out.
+// Decodes a received array twice. Besides, how many are closed, and in how many the sent array came out. Gives whether it did,
+// and is closed.
 fn test_decode(
     degree: u64,
     weights: &[u16; 64],
@@ -91,7 +93,7 @@ fn test_decode(
     filling: &[u64; 2560],
     met: &mut [u64; 16],
     tally: &mut [u64; 16],
-)
+) -> bool
     requires { ⌜ iterations ≤ 20 ⌝ }
 {
     let n = cells_of(degree);
@@ -115,8 +117,17 @@ fn test_decode(
     let counts = (result.refusal == 0) & (result.count == count);
     let agree = counts & (result.erasures == unsure) & (result.closed == closed);
     note_array(&own, &given, agree, mix(count, unsure), tally);
+    let restored = same_arrays(&own, sent);
     tick_if(tally, OWN, closed);
-    tick_if(tally, OWN + 1, same_arrays(&own, sent));
+    tick_if(tally, OWN + 1, restored);
+    restored & closed
+}
+
+// Of the arrays within the row condition, how many there are and how many were restored and closed.
+fn note_within(kind: usize, restored: bool, tally: &mut [u64; 16]) {
+    let within = kind == ROWS_WITHIN;
+    tick_if(tally, OWN + 2, within);
+    tick_if(tally, OWN + 3, within & restored);
 }
 
 // Encodes the message of a sent array anew.
@@ -189,7 +200,7 @@ fn test_one(
     damage_array(cells_of(degree), trial % KINDS, state, &mut received);
     make_filling(trial / KINDS % 3, state, &mut filling);
     let iterations = iterations_of(degree, trial);
-    test_decode(
+    let restored = test_decode(
         degree,
         weights,
         iterations,
@@ -199,6 +210,7 @@ fn test_one(
         met,
         tally,
     );
+    note_within(trial % KINDS, restored, tally);
 }
 
 pub fn test_decoding(

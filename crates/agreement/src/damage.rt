@@ -80,7 +80,7 @@ fn damage_within(n: usize, state: &mut u64, line: &mut [u8; 64]) {
 // ---- an array
 
 // Kinds of damage to an array. The others are a number of wrong and of unsure cells in a line, in the mean.
-pub const KINDS: usize = 13;
+pub const KINDS: usize = 17;
 
 pub const ROWS_AT_THE_LIMIT: usize = 0;
 
@@ -92,9 +92,13 @@ pub const SOME_ROWS_LOST: usize = 3;
 
 pub const ALL_BY_CHANCE: usize = 4;
 
-const WRONG: [usize; 16] = [0, 0, 0, 0, 0, 0, 1, 4, 1, 0, 0, 1, 2, 0, 0, 0];
+pub const COLUMNS_REVERSED: usize = 5;
 
-const UNSURE: [usize; 16] = [0, 0, 0, 0, 0, 0, 0, 0, 2, 8, 64, 5, 3, 0, 0, 0];
+pub const ROWS_REVERSED: usize = 6;
+
+const WRONG: [usize; 17] = [0, 0, 0, 0, 0, 0, 0, 0, 1, 4, 1, 0, 0, 1, 2, 3, 0];
+
+const UNSURE: [usize; 17] = [0, 0, 0, 0, 0, 0, 0, 0, 0, 0, 2, 8, 64, 5, 3, 0, 4];
 
 fn damage_line(n: usize, kind: usize, i: usize, state: &mut u64, line: &mut [u8; 64]) {
     if (kind == ROWS_AT_THE_LIMIT) | (kind == COLUMNS_AT_THE_LIMIT) {
@@ -115,6 +119,18 @@ fn damage_lines(n: usize, kind: usize, state: &mut u64, cells: &mut [u8; 4096])
         take_line(n, columns, i, cells, &mut line);
         damage_line(n, kind, i, state, &mut line);
         put_line(n, columns, i, &line, cells);
+    }
+}
+
+// The rows, or the columns, in reverse order: lines the other way are codewords still, and these mostly are not.
+fn reverse(n: usize, columns: bool, cells: &mut [u8; 4096])
+    requires { ⌜ n ≤ 64 ⌝ }
+{
+    let before = *cells;
+    for i in 0..n {
+        let mut line = [0u8; 64];
+        take_line(n, columns, i, &before, &mut line);
+        put_line(n, columns, n - 1 - i, &line, cells);
     }
 }
 
@@ -139,10 +155,12 @@ fn scatter(n: usize, wrong: usize, unsure: usize, state: &mut u64, cells: &mut [
 }
 
 pub fn damage_array(n: usize, kind: usize, state: &mut u64, cells: &mut [u8; 4096])
-    requires { ⌜ (0 < n) × (n ≤ 64) × (kind < 16) ⌝ }
+    requires { ⌜ (0 < n) × (n ≤ 64) × (kind < 17) ⌝ }
 {
     if kind <= ALL_BY_CHANCE {
         damage_lines(n, kind, state, cells);
+    } else if kind <= ROWS_REVERSED {
+        reverse(n, kind == COLUMNS_REVERSED, cells);
     } else {
         scatter(n, WRONG[kind], UNSURE[kind], state, cells);
     }

@@ -80,7 +80,7 @@ fn run_arrays(degree: u64, many: usize, weights: &[u16; 64], settings: &[usize; 
         &mut rows,
     );
     say(
-        b"decode: # arrays, # agree, # differ, sum #; # closed, # restored\n",
+        b"decode: # arrays, # agree, # differ, sum #; # closed, # restored; # within the row condition, # of them restored and closed\n",
         &decoded,
     );
     say_clauses(&met);
@@ -122,8 +122,8 @@ fn run_refusals(entry: usize, many: usize, name: &[u8]) {
 }
 
 fn main() {
-    run_degree(4, 20000, 1560);
-    run_degree(6, 3000, 260);
+    run_degree(4, 20000, 1530);
+    run_degree(6, 3000, 255);
     run_refusals(refusal_tests::DECODE, 1296, b"calls of decode");
     run_refusals(refusal_tests::ENCODE, 108, b"calls of encode");
     run_refusals(refusal_tests::EXTRACT, 108, b"calls of extract");

@@ -64,10 +64,13 @@ fn other_byte(kind: usize, n: usize, p: usize, input: &mut [u8; 4300])
     } else if kind == 11 {
         input[2 + p] = 50; // both of the last two
         input[2 + n] = 32;
+    } else if kind == 12 {
+        input[1] = input[0]; // the degree with a zero before it
+        input[0] = 48;
     }
 }
 
-// Kinds 0 to 11 are spoilt, 12 to 15 are good.
+// Kinds 0 to 12 are spoilt, 13 to 15 are good.
 const SPOILT: usize = 16;
 
 fn note_text(own: &[u8; 4244], given: &[u8; 4244], same_length: bool, tally: &mut [u64; 16]) {

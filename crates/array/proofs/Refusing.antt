@@ -12,14 +12,14 @@ use lib.ListN.{length, take, drop}
 use Rattle.field.specs.declared.degree.Degree.{Degree}
 use Rattle.field.specs.declared.degree.Named.{Named}
 use Rattle.field.specs.declared.degree.Named.the-variants.{Known, Unknown}
-use Rattle.field.specs.Degree.{size}
+use Rattle.field.specs.Degree.{size, named}
 use Rattle.packed.specs.Cells.{IsWord}
 use Rattle.line.specs.Refusals.{atMost}
 use Rattle.line.proofs.EntryLaws.{at-most-small}
 use Rattle.laws.proofs.Tests.{and-true}
 use Rattle.packed.specs.Arrays.{line}
 use Rattle.array.specs.Encoding.{messageSize}
-use Rattle.array.specs.Refusals.{test, refusal, left, encodeTests, extractTests, rowTests}
+use Rattle.array.specs.Refusals.{test, refusal, left, Answered, encodeTests, extractTests, rowTests}
 use Rattle.packed.proofs.ArrayLaws.{line-room}
 use Rattle.array.proofs.Bounds.{square-le, size-le}
 
@@ -85,3 +85,18 @@ module _ {v : Named} (e : v ≡ Unknown) (tests : Degree → ℕ) where
 
   pub unknown-refused : (new : Degree → List ℕ) (old : List ℕ) → old ≡ left v tests new old
   unknown-refused new old = rw e
+
+-- ---- what a call returns and leaves
+
+module _ {degree : ℕ} {tests : Degree → ℕ} {made : Degree → List ℕ} {old : List ℕ} where
+  pub answered-taken : {d : Degree} {new : List ℕ} {x : ℕ} → named degree ≡ Known d → x ≡ tests d → x ≡ 0 → new ≡ made d
+      → Answered degree tests made old new x
+  answered-taken e h z f =
+      record { refused = known-number e tests h; cells = known-taken e tests made old (sym h ∙ z) f }
+
+  pub answered-refused : {d : Degree} {x : ℕ} → named degree ≡ Known d → x ≡ tests d → (x ≡ 0 → ⊥) → Answered degree tests made old old x
+  answered-refused e h z =
+      record { refused = known-number e tests h; cells = known-refused e tests made old (λ w. z (h ∙ w)) }
+
+  pub answered-unknown : named degree ≡ Unknown → Answered degree tests made old old 1
+  answered-unknown e = record { refused = unknown-number e tests; cells = unknown-refused e tests made old }

@@ -18,6 +18,10 @@ use Rattle.array.specs.Encoding.{messageSize, encodeArray, extracted}
 abbrev pub test : ℕ → Bool → ℕ → ℕ
 test number passes next = cond passes next number
 
+-- tests 3 and 4 of a slice that is lent: first what is asked of lengths, then that no cell is above the bound
+abbrev pub lentTests : Bool → ℕ → List ℕ → ℕ
+lentTests right bound cells = test 3 right (test 4 (atMost bound cells) 0)
+
 -- test 1, and the tests of the degree that the number names
 abbrev pub refusal : Named → (Degree → ℕ) → ℕ
 refusal (Known d) tests = tests d
@@ -28,44 +32,35 @@ abbrev pub left : Named → (Degree → ℕ) → (Degree → List ℕ) → List 
 left (Known d) tests new old = cond (eqb (tests d) 0) (new d) old
 left Unknown tests new old = old
 
+-- the number that a call returns, and what it leaves in the slice that it is to write
+pub record Answered (degree : ℕ) (tests : Degree → ℕ) (made : Degree → List ℕ) (old new : List ℕ) (number : ℕ) : Type 0 where
+  pub refused : number ≡ refusal (named degree) tests
+  pub cells : new ≡ left (named degree) tests made old
+
 -- ---- encode: a message of k by k cells, and `long` cells to write
 
 abbrev pub encodeTests : List ℕ → ℕ → Degree → ℕ
 encodeTests message long d =
-    test 3 (eqb (length message) (messageSize d * messageSize d) && eqb long (size d * size d)) (test 4 (atMost 1 message) 0)
+    lentTests (eqb (length message) (messageSize d * messageSize d) && eqb long (size d * size d)) 1 message
 
-abbrev pub encodeRefusal : ℕ → List ℕ → ℕ → ℕ
-encodeRefusal degree message long = refusal (named degree) (encodeTests message long)
-
-abbrev pub encodedCells : ℕ → List ℕ → List ℕ → List ℕ
-encodedCells degree message old = left (named degree) (encodeTests message (length old)) (λ d. encodeArray d message) old
-
--- the number that encode returns, and the cells that it leaves
-pub record Encoded (degree : ℕ) (message old new : List ℕ) (number : ℕ) : Type 0 where
-  pub refused : number ≡ encodeRefusal degree message (length old)
-  pub cells : new ≡ encodedCells degree message old
+abbrev pub Encoded : (degree : ℕ) (message old new : List ℕ) (number : ℕ) → Type 0
+Encoded degree message old new number =
+    Answered degree (encodeTests message (length old)) (λ d. encodeArray d message) old new number
 
 -- ---- extract: an array of n by n cells, and `long` cells to write
 
 abbrev pub extractTests : List ℕ → ℕ → Degree → ℕ
 extractTests cells long d =
-    test 3 (eqb (length cells) (size d * size d) && eqb long (messageSize d * messageSize d)) (test 4 (atMost 2 cells) 0)
+    lentTests (eqb (length cells) (size d * size d) && eqb long (messageSize d * messageSize d)) 2 cells
 
-abbrev pub extractRefusal : ℕ → List ℕ → ℕ → ℕ
-extractRefusal degree cells long = refusal (named degree) (extractTests cells long)
-
-abbrev pub extractedMessage : ℕ → List ℕ → List ℕ → List ℕ
-extractedMessage degree cells old = left (named degree) (extractTests cells (length old)) (λ d. extracted d cells) old
-
--- the number that extract returns, and the message that it leaves
-pub record Extracted (degree : ℕ) (cells old new : List ℕ) (number : ℕ) : Type 0 where
-  pub refused : number ≡ extractRefusal degree cells (length old)
-  pub message : new ≡ extractedMessage degree cells old
+abbrev pub Extracted : (degree : ℕ) (cells old new : List ℕ) (number : ℕ) → Type 0
+Extracted degree cells old new number =
+    Answered degree (extractTests cells (length old)) (λ d. extracted d cells) old new number
 
 -- ---- the look-up of row `index` of an array of n by n cells
 
 abbrev pub rowTests : List ℕ → ℕ → Degree → ℕ
-rowTests cells index d = test 3 (eqb (length cells) (size d * size d) && ltb index (size d)) (test 4 (atMost 2 cells) 0)
+rowTests cells index d = lentTests (eqb (length cells) (size d * size d) && ltb index (size d)) 2 cells
 
 abbrev pub rowRefusal : ℕ → List ℕ → ℕ → ℕ
 rowRefusal degree cells index = refusal (named degree) (rowTests cells index)

@@ -4,18 +4,25 @@ use field::degree::Degree;
 use field::degree::size_of;
 use line::refusals::at_most;
 ghost use mathlib.Core.Path.{_≡_};
-ghost use Rattle.array.specs.Refusals.{encodeTests, extractTests, rowTests};
+ghost use Rattle.array.specs.Refusals.{lentTests, encodeTests, extractTests, rowTests};
+
+// Tests 3 and 4 of a slice that is lent, where it is known whether all lengths are right.
+fn lent_tests(right: bool, bound: u8, cells: &[u8]) -> u64
+    ensures { λ r. ⌜ r ≡ lentTests right bound (now (cells .entry)) ⌝ }
+{
+    if right {
+        if at_most(bound, cells) { 0 } else { 4 }
+    } else {
+        3
+    }
+}
 
 pub fn encode_tests(d: Degree, message: &[u8], long: usize) -> u64
     ensures { λ r. ⌜ r ≡ encodeTests (now (message .entry)) long d ⌝ }
 {
     let n = size_of(d);
     let k = message_size_of(d);
-    if (message.len() == k * k) & (long == n * n) {
-        if at_most(1, message) { 0 } else { 4 }
-    } else {
-        3
-    }
+    lent_tests((message.len() == k * k) & (long == n * n), 1, message)
 }
 
 pub fn extract_tests(d: Degree, cells: &[u8], long: usize) -> u64
@@ -23,20 +30,12 @@ pub fn extract_tests(d: Degree, cells: &[u8], long: usize) -> u64
 {
     let n = size_of(d);
     let k = message_size_of(d);
-    if (cells.len() == n * n) & (long == k * k) {
-        if at_most(2, cells) { 0 } else { 4 }
-    } else {
-        3
-    }
+    lent_tests((cells.len() == n * n) & (long == k * k), 2, cells)
 }
 
 pub fn row_tests(d: Degree, cells: &[u8], index: usize) -> u64
     ensures { λ r. ⌜ r ≡ rowTests (now (cells .entry)) index d ⌝ }
 {
     let n = size_of(d);
-    if (cells.len() == n * n) & (index < n) {
-        if at_most(2, cells) { 0 } else { 4 }
-    } else {
-        3
-    }
+    lent_tests((cells.len() == n * n) & (index < n), 2, cells)
 }

@@ -2,4 +2,5 @@
 pub mod reading;
 pub mod sheet;
 pub mod step;
+pub mod turning;
 pub mod writing;

@@ -1,13 +1,12 @@
 // What is read: the first line, the tests of the lines after it, and their cells.
-use crate::writing::put_byte;
+use crate::turning::Turn;
+use crate::turning::put_turned;
 use field::degree::Degree;
 use field::degree::Named;
 ghost use mathlib.Core.Path.{_≡_};
-ghost use mathlib.Core.List.{map};
 ghost use Prim.Native.Nat.{_+_, _*_, _≤_};
 ghost use lib.ListN.{length};
-ghost use Rattle.text.specs.Text.{firstLine, placed, shaped, known, cellOf, cellsOf};
-ghost use Rattle.text.specs.Writing.{Wrote};
+ghost use Rattle.text.specs.Text.{firstLine, placed, shaped, known, cellsOf};
 
 pub fn first_line(text: &[u8]) -> Named
     ensures { λ r. ⌜ r ≡ firstLine (now (text .entry)) ⌝ }
@@ -67,32 +66,6 @@ pub fn is_known(text: &[u8]) -> bool
     all
 }
 
-fn cell_of(byte: u8) -> u8
-    ensures { λ r. ⌜ r ≡ cellOf byte ⌝ }
-{
-    if byte == 49 {
-        1
-    } else if byte == 63 {
-        2
-    } else {
-        0
-    }
-}
-
-// The cells of a line, into `cells` from a place on; returns the place after them.
-fn read_line(text: &[u8], at: usize, cells: &mut [u8]) -> usize
-    requires { ⌜ at + length (now text) ≤ length (now cells) ⌝ }
-    ensures { λ r. ⌜ Wrote (now (cells .entry)) at (map cellOf (now (text .entry))) (now (cells .exit)) r ⌝ }
-{
-    let mut next = at;
-    let mut j = 0;
-    while j < text.len() {
-        next = put_byte(cell_of(text[j]), next, cells);
-        j += 1;
-    }
-    next
-}
-
 // The cells of n lines, each without its newline.
 pub fn read_cells(n: usize, text: &[u8], cells: &mut [u8])
     requires { ⌜ (n ≤ 64) × (length (now text) ≡ n * (n + 1)) × (length (now cells) ≡ n * n) ⌝ }
@@ -103,7 +76,7 @@ pub fn read_cells(n: usize, text: &[u8], cells: &mut [u8])
     let mut i = 0;
     while i < n {
         let end = from + n;
-        next = read_line(&text[from..end], next, cells);
+        next = put_turned(Turn::ToCells, &text[from..end], next, cells);
         from = end + 1;
         i += 1;
     }

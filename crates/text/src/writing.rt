@@ -1,19 +1,12 @@
 // What is printed. Each function writes a text into the output from a place on, and returns the place after it.
+use crate::turning::Turn;
+use crate::turning::put_byte;
+use crate::turning::put_turned;
 ghost use mathlib.Core.Path.{_≡_};
-ghost use mathlib.Core.List.{[], _∷_};
-ghost use Prim.Native.Nat.{_+_, _*_, _<_, _≤_};
+ghost use Prim.Native.Nat.{_+_, _*_, _≤_};
 ghost use lib.ListN.{length};
-ghost use Rattle.text.specs.Text.{decimal, numberText, numbersText, charOf, lineText, arrayText, reportText, refusalText};
+ghost use Rattle.text.specs.Text.{decimal, numberText, numbersText, lineText, arrayText, reportText, refusalText};
 ghost use Rattle.text.specs.Writing.{Wrote};
-
-// Every byte that is written goes through here.
-pub fn put_byte(byte: u8, at: usize, output: &mut [u8]) -> usize
-    requires { ⌜ at < length (now output) ⌝ }
-    ensures { λ r. ⌜ Wrote (now (output .entry)) at (byte ∷ []) (now (output .exit)) r ⌝ }
-{
-    output[at] = byte;
-    at + 1
-}
 
 fn put_decimal(number: u64, at: usize, output: &mut [u8]) -> usize
     requires { ⌜ at + length (decimal number) ≤ length (now output) ⌝ }
@@ -47,29 +40,12 @@ fn put_numbers(a: u64, b: u64, c: u64, e: u64, output: &mut [u8]) -> usize
     put_number(e, 10, fourth, output)
 }
 
-fn char_of(cell: u8) -> u8
-    ensures { λ r. ⌜ r ≡ charOf cell ⌝ }
-{
-    if cell == 0 {
-        48
-    } else if cell == 1 {
-        49
-    } else {
-        63
-    }
-}
-
 // A line of cells.
 fn put_line(cells: &[u8], at: usize, output: &mut [u8]) -> usize
     requires { ⌜ at + length (now cells) + 1 ≤ length (now output) ⌝ }
     ensures { λ r. ⌜ Wrote (now (output .entry)) at (lineText (now (cells .entry))) (now (output .exit)) r ⌝ }
 {
-    let mut next = at;
-    let mut j = 0;
-    while j < cells.len() {
-        next = put_byte(char_of(cells[j]), next, output);
-        j += 1;
-    }
+    let next = put_turned(Turn::ToCharacters, cells, at, output);
     put_byte(10, next, output)
 }
 

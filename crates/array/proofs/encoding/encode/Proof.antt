@@ -1,10 +1,7 @@
 -- `encoding::encode` meets its contract: the tests of a taken call say that the message and the cells are of the right form.
 -- Assumes nothing.
 use mathlib.Core.Path.{sym, _∙_}
-use lib.ListN.{length}
-use Rattle.array.specs.Encoding.{encodeArray}
-use Rattle.array.specs.Refusals.{encodeTests}
-use Rattle.array.proofs.Refusing.{encode-taken, known-number, known-taken, known-refused, unknown-number, unknown-refused}
+use Rattle.array.proofs.Refusing.{encode-taken, answered-taken, answered-refused, answered-unknown}
 use borrow.Author.Needs.{needs}
 use Rattle.array.proofs.encoding.encode.Statement.{statement}
 use Rattle.array.proofs.encoding.encode.Tie as tie
@@ -32,36 +29,17 @@ same-length c = search needs
 returns : tie.Need-returns
 returns c =
     let q = c .before .before .before .before .before in
-    let g = q .before .before .d .given in
-    let v = sym (q .before .before .before .before .degree-of .ensures) ∙ g .1 in
-    let s = q .before .before .before .before .before .before .before .args in
-    let tests = encodeTests (s .message .now) (length (s .cells .now)) in
-    let taken = sym (q .encode-tests .ensures) ∙ c .before .before .before .before .if1 .taken in
-    record {
-      refused = known-number v tests (q .encode-tests .ensures);
-      cells = known-taken v tests (λ d. encodeArray d (s .message .now)) (s .cells .now) taken (c .before .before .encode-array .ensures);
-    }
+    let v = sym (q .before .before .before .before .degree-of .ensures) ∙ q .before .before .d .given .1 in
+    answered-taken v (q .encode-tests .ensures) (c .before .before .before .before .if1 .taken) (c .before .before .encode-array .ensures)
 
 returns-2 : tie.Need-returns-2
 returns-2 c =
     let q = c .before in
     let v = sym (q .before .before .before .before .degree-of .ensures) ∙ q .before .before .d .given .1 in
-    let s = q .before .before .before .before .before .before .before .args in
-    let tests = encodeTests (s .message .now) (length (s .cells .now)) in
-    record {
-      refused = known-number v tests (q .encode-tests .ensures);
-      cells = known-refused v tests (λ d. encodeArray d (s .message .now)) (s .cells .now) (λ z. c .if1 .left (q .encode-tests .ensures ∙ z));
-    }
+    answered-refused v (q .encode-tests .ensures) (c .if1 .left)
 
 returns-3 : tie.Need-returns-3
-returns-3 c =
-    let v = sym (c .before .before .degree-of .ensures) ∙ c .enum-told .given .1 in
-    let s = c .before .before .before .before .before .args in
-    let tests = encodeTests (s .message .now) (length (s .cells .now)) in
-    record {
-      refused = unknown-number v tests;
-      cells = unknown-refused v tests (λ d. encodeArray d (s .message .now)) (s .cells .now);
-    }
+returns-3 c = answered-unknown (sym (c .before .before .degree-of .ensures) ∙ c .enum-told .given .1)
 
 pub encode-spec : {M : Type 1} → statement M
 encode-spec =

@@ -2,9 +2,7 @@
 -- Assumes nothing.
 use mathlib.Core.Path.{sym, _∙_}
 use lib.ListN.{length}
-use Rattle.array.specs.Encoding.{extracted}
-use Rattle.array.specs.Refusals.{extractTests}
-use Rattle.array.proofs.Refusing.{extract-taken, known-number, known-taken, known-refused, unknown-number, unknown-refused}
+use Rattle.array.proofs.Refusing.{extract-taken, answered-taken, answered-refused, answered-unknown}
 use borrow.Author.Needs.{needs}
 use Rattle.array.proofs.extraction.extract.Statement.{statement}
 use Rattle.array.proofs.extraction.extract.Tie as tie
@@ -33,36 +31,17 @@ same-length c = search needs
 returns : tie.Need-returns
 returns c =
     let q = c .before .before .before .before .before in
-    let g = q .before .before .d .given in
-    let v = sym (q .before .before .before .before .degree-of .ensures) ∙ g .1 in
-    let s = q .before .before .before .before .before .before .before .args in
-    let tests = extractTests (s .cells .now) (length (s .message .now)) in
-    let taken = sym (q .extract-tests .ensures) ∙ c .before .before .before .before .if1 .taken in
-    record {
-      refused = known-number v tests (q .extract-tests .ensures);
-      message = known-taken v tests (λ d. extracted d (s .cells .now)) (s .message .now) taken (c .before .before .extract-message .ensures);
-    }
+    let v = sym (q .before .before .before .before .degree-of .ensures) ∙ q .before .before .d .given .1 in
+    answered-taken v (q .extract-tests .ensures) (c .before .before .before .before .if1 .taken) (c .before .before .extract-message .ensures)
 
 returns-2 : tie.Need-returns-2
 returns-2 c =
     let q = c .before in
     let v = sym (q .before .before .before .before .degree-of .ensures) ∙ q .before .before .d .given .1 in
-    let s = q .before .before .before .before .before .before .before .args in
-    let tests = extractTests (s .cells .now) (length (s .message .now)) in
-    record {
-      refused = known-number v tests (q .extract-tests .ensures);
-      message = known-refused v tests (λ d. extracted d (s .cells .now)) (s .message .now) (λ z. c .if1 .left (q .extract-tests .ensures ∙ z));
-    }
+    answered-refused v (q .extract-tests .ensures) (c .if1 .left)
 
 returns-3 : tie.Need-returns-3
-returns-3 c =
-    let v = sym (c .before .before .degree-of .ensures) ∙ c .enum-told .given .1 in
-    let s = c .before .before .before .before .before .args in
-    let tests = extractTests (s .cells .now) (length (s .message .now)) in
-    record {
-      refused = unknown-number v tests;
-      message = unknown-refused v tests (λ d. extracted d (s .cells .now)) (s .message .now);
-    }
+returns-3 c = answered-unknown (sym (c .before .before .degree-of .ensures) ∙ c .enum-told .given .1)
 
 pub extract-spec : {M : Type 1} → statement M
 extract-spec =

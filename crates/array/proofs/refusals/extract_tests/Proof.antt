@@ -1,6 +1,4 @@
--- `refusals::extract_tests` meets its contract: each way out is one case of the two tests, at the sizes of the degree.
--- Assumes nothing.
-use mathlib.Core.Path.{sym, _∙_}
+-- `refusals::extract_tests` meets its contract: the tests of what is lent, at the sizes of the degree. Assumes nothing.
 use native.Mathlib.Omega.{arith}
 use Rattle.array.proofs.Bounds.{square-le, size-le, message-le}
 use borrow.Author.Needs.{needs}
@@ -13,34 +11,17 @@ size-of-requires c κs = search needs
 message-size-of-requires : tie.Need-message-size-of-requires
 message-size-of-requires c κs = search needs
 
-mul-if1 : tie.Need-mul-if1
-mul-if1 c =
-    omega (arith, square-le (c .before .size-of .result) (size-le (c .before .before .before .args .d) (c .before .size-of .ensures)))
+mul-lent-tests : tie.Need-mul-lent-tests
+mul-lent-tests c = omega (arith, square-le (c .before .size-of .result) (size-le (c .before .before .before .args .d) (c .before .size-of .ensures)))
 
-mul-if1-2 : tie.Need-mul-if1-2
-mul-if1-2 c =
-    omega (arith, square-le (c .message-size-of .result) (message-le (c .before .before .before .args .d) (c .message-size-of .ensures)))
+mul-lent-tests-2 : tie.Need-mul-lent-tests-2
+mul-lent-tests-2 c = omega (arith, square-le (c .message-size-of .result) (message-le (c .before .before .before .args .d) (c .message-size-of .ensures)))
 
-at-most-requires : tie.Need-at-most-requires
-at-most-requires c κs = search needs
+lent-tests-requires : tie.Need-lent-tests-requires
+lent-tests-requires c κs = search needs
 
 returns : tie.Need-returns
-returns c =
-    let q = c .before .before in
-    let k = q .before .message-size-of .ensures in
-    let n = q .before .before .size-of .ensures in
-    rw (← k, ← n, q .if1 .taken, sym (c .before .at-most .ensures) ∙ c .if2 .taken)
-
-returns-2 : tie.Need-returns-2
-returns-2 c =
-    let q = c .before .before in
-    let k = q .before .message-size-of .ensures in
-    let n = q .before .before .size-of .ensures in
-    rw (← k, ← n, q .if1 .taken, sym (c .before .at-most .ensures) ∙ c .if2 .left)
-
-returns-3 : tie.Need-returns-3
-returns-3 c =
-    rw (← c .before .message-size-of .ensures, ← c .before .before .size-of .ensures, c .if1 .left)
+returns c = rw (← c .before .message-size-of .ensures, ← c .before .before .size-of .ensures) (c .lent-tests .ensures)
 
 pub extract-tests-spec : {M : Type 1} → statement M
 extract-tests-spec =
@@ -48,9 +29,7 @@ extract-tests-spec =
     (tie.spec
     size-of-requires
     message-size-of-requires
-    mul-if1
-    mul-if1-2
-    at-most-requires
-    returns
-    returns-2
-    returns-3)
+    mul-lent-tests
+    mul-lent-tests-2
+    lent-tests-requires
+    returns)

@@ -26,19 +26,19 @@ add-end c =
     let s = c .before .before .before .before in
     omega (arith, lined-source (c .before .loop .inv) (c .loop-test .taken), room-le (s .args .n) (s .pre .0))
 
-sub-read-line : tie.Need-sub-read-line Inv-loop μ-loop
-sub-read-line c = omega arith
+sub-put-turned : tie.Need-sub-put-turned Inv-loop μ-loop
+sub-put-turned c = omega arith
 
-part-read-line-start : tie.Need-part-read-line-start Inv-loop μ-loop
-part-read-line-start c = omega arith
+part-put-turned-start : tie.Need-part-put-turned-start Inv-loop μ-loop
+part-put-turned-start c = omega arith
 
-part-read-line-end : tie.Need-part-read-line-end Inv-loop μ-loop
-part-read-line-end c =
+part-put-turned-end : tie.Need-part-put-turned-end Inv-loop μ-loop
+part-put-turned-end c =
     let s = c .before .before .before .before in
     omega (arith, lined-source (c .before .loop .inv) (c .loop-test .taken), s .pre .1)
 
-read-line-requires : tie.Need-read-line-requires Inv-loop μ-loop
-read-line-requires c κs =
+put-turned-requires : tie.Need-put-turned-requires Inv-loop μ-loop
+put-turned-requires c κs =
     let q = c .before .before .before in
     let s = q .before .before .before in
     let h = c .before .before .loop-test .taken in
@@ -62,7 +62,7 @@ loop-again c =
     let q = c .before .before .before .before .before .before in
     let s = q .before .before .before in
     let w = q .loop .inv in
-    lined-next w (c .before .before .before .before .before .loop-test .taken) (rw (← lined-part w (s .args .n) (s .args .text .now)) (c .before .before .read-line .ensures)) (omega arith)
+    lined-next w (c .before .before .before .before .before .loop-test .taken) (rw (← lined-part w (s .args .n) (s .args .text .now)) (c .before .before .put-turned .ensures)) (omega arith)
 
 same-length : tie.Need-same-length Inv-loop μ-loop
 same-length c = wrote-length (c .before .loop .inv .wrote)
@@ -82,10 +82,10 @@ read-cells-spec =
     μ-loop
     loop-holds
     add-end
-    sub-read-line
-    part-read-line-start
-    part-read-line-end
-    read-line-requires
+    sub-put-turned
+    part-put-turned-start
+    part-put-turned-end
+    put-turned-requires
     add-from
     add-i
     loop-less

@@ -13,7 +13,7 @@ use borrow.Fn.PlainCycle.{Measures, is, falls, and}
 use Rattle.text.proofs.writing.put_decimal.Reads as put-decimal
 use Rattle.text.proofs.writing.put_decimal.Kinds as put-decimal-kinds
 use Rattle.text.proofs.writing.+put_decimal.Lts-put_decimal as put-decimal-lts
-use Rattle.text.proofs.writing.put_byte.Reads as put-byte-reads
+use Rattle.text.proofs.turning.put_byte.Reads as put-byte-reads
 use Rattle.text.proofs.writing.+put_decimal.{statement}
 use Rattle.text.proofs.writing.+put_decimal.Tie.{close}
 

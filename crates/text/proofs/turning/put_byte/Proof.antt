@@ -1,9 +1,9 @@
--- `writing::put_byte` meets its contract: one byte is set.
+-- `turning::put_byte` meets its contract: one byte is set.
 -- Assumes nothing.
 use Rattle.text.proofs.WritingLaws.{wrote-one}
 use borrow.Author.Needs.{needs}
-use Rattle.text.proofs.writing.put_byte.Statement.{statement}
-use Rattle.text.proofs.writing.put_byte.Tie as tie
+use Rattle.text.proofs.turning.put_byte.Statement.{statement}
+use Rattle.text.proofs.turning.put_byte.Tie as tie
 
 slice-write-output : tie.Need-slice-write-output
 slice-write-output c = search needs
