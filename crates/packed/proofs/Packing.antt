@@ -5,7 +5,7 @@ use mathlib.Core.Bool.{Bool, true, false}
 use mathlib.Core.List.{List}
 use Prim.Native.Nat.{ℕ, suc, _+_, _-_, _*_, _/_, _%_, _^_, _≤_, _<_}
 use native.Mathlib.Omega.{arith}
-use lib.Bits.{bitAnd, bitOr, bitXor}
+use lib.Bits.{bitAnd, bitOr, bitXor, xor-self, and-le-l}
 use lib.Count.{ones}
 use lib.ListN.{length, set}
 use lib.Pow.{shl-exact}
@@ -76,6 +76,21 @@ pub differences-of : {n : ℕ} {cs ws : List ℕ} {l : Line} {w : ℕ} → Packs
     → ones (bitAnd (bitXor w (l .ones)) (2 ^ 64 - 1 - l .erased)) ≡ distance cs ws
 differences-of {cs} {ws} p q =
     rw (p .ones, p .erased, q .ones) (ones-differing 64 cs ws (q .cells .long ∙ sym (p .cells .long)) (rw (p .cells .long) (p .room)) (p .cells .small) (q .cells .small))
+
+-- a line whose erased word is 0 has no erasure
+pub no-erasures : {n : ℕ} {cs : List ℕ} {l : Line} → Packs n cs l → l .erased ≡ 0 → 0 ≡ erasures cs
+unfolding ones
+no-erasures p e = rw e at (erasures-of p)
+
+-- a line that holds the ones of a word differs from it in no known cell
+pub no-differences : {n : ℕ} {cs ws : List ℕ} {l : Line} {w : ℕ} → Packs n cs l → PacksWord n ws w → w ≡ l .ones → 0 ≡ distance cs ws
+unfolding ones
+no-differences {l} {w} p q e =
+    let known = 2 ^ 64 - 1 - l .erased in
+    let none : bitXor w (l .ones) ≡ 0 = rw (← e) (xor-self w) in
+    let left : bitAnd 0 known ≡ 0 = omega (arith, and-le-l 0 known) in
+    let zero : ones (bitAnd (bitXor w (l .ones)) known) ≡ 0 = rw (none, left) refl in
+    sym zero ∙ differences-of p q
 
 -- a line by its two words
 pub line-is : {l : Line} {o e : ℕ} → (l .ones ≡ o) × (l .erased ≡ e) → l ≡ record { ones = o; erased = e }

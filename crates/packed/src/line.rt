@@ -129,18 +129,27 @@ pub fn word_of(words: [u64; 2], s: Side) -> u64
     }
 }
 
+// The erasures of a line. In a decode there are mostly none, and then there is nothing to count.
 pub fn count_erasures(l: Line) -> u32
     ensures { λ r. ⌜ (r ≤ 64) × ((n : ℕ) (cs : List ℕ) → Packs n cs l → r ≡ erasures cs) ⌝ }
 {
-    u64::count_ones(l.erased)
+    if l.erased == 0 {
+        0
+    } else {
+        u64::count_ones(l.erased)
+    }
 }
 
-// The differences of a line from a word, at the line's known cells.
+// The differences of a line from a word, at the line's known cells: none where the word is the line's own, as it mostly is.
 pub fn count_differences(l: Line, word: u64) -> u32
     ensures { λ r. ⌜ ((n : ℕ) (cs ws : List ℕ) → Packs n cs l → PacksWord n ws word → r ≡ distance cs ws) ⌝ }
 {
     let known = !l.erased;
-    u64::count_ones((word ^ l.ones) & known)
+    if word == l.ones {
+        0
+    } else {
+        u64::count_ones((word ^ l.ones) & known)
+    }
 }
 
 // The cells in which two lines differ.

@@ -14,7 +14,7 @@ returns-2 : tie.Need-returns-2
 returns-2 c = rw (c .before .before .if1 .taken, sym (c .before .at-most .ensures) ∙ c .if2 .left)
 
 returns-3 : tie.Need-returns-3
-returns-3 c = search needs
+returns-3 c = rw (c .if1 .left)
 
 pub lent-tests-spec : {M : Type 1} → statement M
 lent-tests-spec = tie.close (tie.spec at-most-requires returns returns-2 returns-3)

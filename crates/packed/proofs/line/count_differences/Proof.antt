@@ -1,11 +1,15 @@
--- `packed::line::count_differences` meets its contract: the ones of the xor under the known mask are the differences.
+-- `packed::line::count_differences` meets its contract: the ones of the xor under the known mask are the differences, and equal
+-- words have none.
 -- Assumes nothing.
-use Rattle.packed.proofs.Packing.{differences-of}
+use Rattle.packed.proofs.Packing.{differences-of, no-differences}
 use Rattle.packed.proofs.line.count_differences.Statement.{statement}
 use Rattle.packed.proofs.line.count_differences.Tie as tie
 
 returns : tie.Need-returns
-returns c = λ n cs ws p q. differences-of p q
+returns c = λ n cs ws p q. no-differences p q (c .if1 .taken)
+
+returns-2 : tie.Need-returns-2
+returns-2 c = λ n cs ws p q. differences-of p q
 
 pub count-differences-spec : {M : Type 1} → statement M
-count-differences-spec = tie.close (tie.spec returns)
+count-differences-spec = tie.close (tie.spec returns returns-2)
