@@ -37,14 +37,14 @@ pub fn make_sent(
     encode_array(degree, weights, settings, cells);
 }
 
-// Iterations from 1 to 20; at degree 6, where they take long, mostly few.
+// Iterations from 1 to 20; at degree 6, where they take long, mostly 1 to 3.
 fn iterations_of(degree: u64, trial: usize) -> usize
     ensures { λ r. ⌜ r ≤ 20 ⌝ }
 {
     if degree == 4 {
         1 + trial % 20
-    } else if trial % 29 == 3 {
-        20
+    } else if trial % 5 == 0 {
+        1 + trial / 5 % 20
     } else {
         1 + trial % 3
     }
