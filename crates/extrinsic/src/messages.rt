@@ -25,14 +25,14 @@ use packed::side::Side;
 ghost use mathlib.Core.Path.{_≡_};
 ghost use mathlib.Core.Bool.{true, false, _&&_};
 ghost use mathlib.Core.List.{List};
-ghost use Prim.Native.Nat.{ℕ, _+_, _<_, _≤_};
+ghost use Prim.Native.Nat.{ℕ, _+_, _*_, _<_, _≤_};
 ghost use lib.Dec.{eqb};
 ghost use Rattle.laws.specs.Bits.{bitAt};
 ghost use Rattle.field.specs.Degree.{size};
 ghost use Rattle.field.specs.Tables.{Tables};
-ghost use Rattle.packed.specs.Cells.{IsLine, cell, erasures, few, filled};
+ghost use Rattle.packed.specs.Cells.{IsLine, cell, erasures, few, bit, filled};
 ghost use Rattle.line.specs.Bounded.{Answer, bounded, orBack};
-ghost use Rattle.line.specs.Decoding.{replaced, message, messages};
+ghost use Rattle.line.specs.Decoding.{replaced, message, messages, decoded};
 ghost use Rattle.extrinsic.specs.Clauses.{ifNear, instead, cost, clause, settled, count};
 ghost use Rattle.packed.specs.Packed.{Packs};
 ghost use Rattle.line.specs.Working.{Answers};
@@ -114,6 +114,26 @@ fn open_cell(
     }
 }
 
+// A cell decoded afresh: the replaced line z is decoded whole.
+fn fresh_cell(d: Degree, z: Line, k: u32, filling: u64, count: u64, tables: &FieldTables) -> Settled
+    requires { ⌜ (k < 64) × (count < 800) × Tables d (now tables) ⌝ }
+    ensures { λ r. ⌜ (r .count ≤ count + 2) × ((zs : List ℕ) → Packs (size d) zs z → (r .cell ≡ cell (decoded (bounded d) zs filling) k) × (r .count ≡ count + 2 * bit (few zs))) ⌝ }
+{
+    let whole = decode_packed(d, z, filling, count, tables);
+    Settled {
+        cell: cell_at(whole.line, k),
+        count: whole.count,
+    }
+}
+
+// A message that takes no further decoding.
+fn free(cell: u64, count: u64) -> Settled
+    ensures { λ r. ⌜ (r .cell ≡ cell) × (r .count ≡ count) ⌝ }
+{
+    Settled { cell, count }
+}
+
+// The clauses of document 01, in its order.
 fn settle(
     d: Degree,
     v: Clause,
@@ -131,36 +151,15 @@ fn settle(
     let c = cell_at(r, k);
     let z = put(y, k, c);
     match v {
-        Clause::Equal => Settled {
-            cell: cell_at(b.own, k),
-            count,
-        },
-        Clause::Crowded => Settled { cell: 2, count },
-        Clause::Both => {
-            let best = choose(z, b.one.tried, b.two.tried);
-            Settled {
-                cell: answer_at(z, best, k),
-                count,
-            }
-        }
-        Clause::Neither => Settled { cell: c, count },
-        Clause::Agreeing(s) => Settled {
-            cell: answer_at(z, tried_of(b, s), k),
-            count,
-        },
-        Clause::Unchanged(s) => Settled {
-            cell: answer_at(z, tried_of(b, s), k),
-            count,
-        },
+        Clause::Equal => free(cell_at(b.own, k), count),
+        Clause::Crowded => free(2, count),
+        Clause::Both => free(answer_at(z, choose(z, b.one.tried, b.two.tried), k), count),
+        Clause::Neither => free(c, count),
+        Clause::Agreeing(s) => free(answer_at(z, tried_of(b, s), k), count),
+        Clause::Unchanged(s) => free(answer_at(z, tried_of(b, s), k), count),
         Clause::Open(s) => open_cell(d, z, c, k, filling, s, b, count, tables),
-        Clause::Afresh => {
-            let whole = decode_packed(d, z, filling, count, tables);
-            Settled {
-                cell: cell_at(whole.line, k),
-                count: whole.count,
-            }
-        }
-        Clause::Channel => Settled { cell: c, count },
+        Clause::Afresh => fresh_cell(d, z, k, filling, count, tables),
+        Clause::Channel => free(c, count),
     }
 }
 

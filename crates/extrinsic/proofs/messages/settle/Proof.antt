@@ -1,4 +1,4 @@
--- `extrinsic::messages::settle` meets its contract: by cases of the clause.
+-- `extrinsic::messages::settle` meets its contract: by cases of the clause. All that it asks of its callees is at hand.
 -- Assumes nothing.
 use mathlib.Core.Path.{_≡_, refl, sym, _∙_}
 use mathlib.Core.List.{List}
@@ -15,69 +15,6 @@ use Rattle.extrinsic.proofs.Settling.{replaced-line, equal-cell, tried-
 use Rattle.extrinsic.proofs.messages.settle.Statement.{statement}
 use Rattle.extrinsic.proofs.messages.settle.Tie as tie
 
-cell-at-requires : tie.Need-cell-at-requires
-cell-at-requires c κs = search needs
-
-put-requires : tie.Need-put-requires
-put-requires c κs = search needs
-
-enum-told : tie.Need-enum-told
-enum-told c = search needs
-
-cell-at-requires-2 : tie.Need-cell-at-requires-2
-cell-at-requires-2 c κs = search needs
-
-enum-told-2 : tie.Need-enum-told-2
-enum-told-2 c = search needs
-
-enum-told-3 : tie.Need-enum-told-3
-enum-told-3 c = search needs
-
-choose-requires : tie.Need-choose-requires
-choose-requires c κs = search needs
-
-answer-at-requires : tie.Need-answer-at-requires
-answer-at-requires c κs = search needs
-
-enum-told-4 : tie.Need-enum-told-4
-enum-told-4 c = search needs
-
-enum-known-v : tie.Need-enum-known-v
-enum-known-v c = search needs
-
-tried-of-requires : tie.Need-tried-of-requires
-tried-of-requires c κs = search needs
-
-answer-at-requires-2 : tie.Need-answer-at-requires-2
-answer-at-requires-2 c κs = search needs
-
-enum-known-v-2 : tie.Need-enum-known-v-2
-enum-known-v-2 c = search needs
-
-tried-of-requires-2 : tie.Need-tried-of-requires-2
-tried-of-requires-2 c κs = search needs
-
-answer-at-requires-3 : tie.Need-answer-at-requires-3
-answer-at-requires-3 c κs = search needs
-
-enum-known-v-3 : tie.Need-enum-known-v-3
-enum-known-v-3 c = search needs
-
-open-cell-requires : tie.Need-open-cell-requires
-open-cell-requires c κs = search needs
-
-enum-told-5 : tie.Need-enum-told-5
-enum-told-5 c = search needs
-
-decode-packed-requires : tie.Need-decode-packed-requires
-decode-packed-requires c κs = search needs
-
-cell-at-requires-3 : tie.Need-cell-at-requires-3
-cell-at-requires-3 c κs = search needs
-
-enum-told-6 : tie.Need-enum-told-6
-enum-told-6 c = search needs
-
 -- the channel's cell, and the replaced line
 channel : (c : tie.After-put) (rs : List ℕ) → Packs (size (c .before .before .args .d)) rs (c .before .before .args .r) → c .before .cell-at .result ≡ cell rs (c .before .before .args .k)
 channel c rs q = c .before .cell-at .ensures .1 _ rs q
@@ -90,61 +27,65 @@ module _ (c : tie.After-put) {ys rs : List ℕ} (p : Packs (size (c .before .bef
 returns : tie.Need-returns
 unfolding settled
 returns c = (
-  omega arith,
+  omega (arith, c .free .ensures .1),
   λ ys rs p q hk B g.
-      let t = c .before .enum-told .given .1 in
-      rw t (equal-cell p q hk B (sym t ∙ g) (c .cell-at2 .ensures .1 _ _ (B .own)), omega arith),
+      let t = c .before .before .enum-told .given .1 in
+      let own = equal-cell p q hk B (sym t ∙ g) (c .before .cell-at2 .ensures .1 _ _ (B .own)) in
+      rw t (c .free .ensures .0 ∙ own, omega (arith, c .free .ensures .1)),
 )
 
 returns-2 : tie.Need-returns-2
 unfolding settled
 returns-2 c = (
-  omega arith,
+  omega (arith, c .free2 .ensures .1),
   λ ys rs p q hk B g.
-      let t = c .enum-told2 .given .1 in
-      rw t (refl, omega arith),
+      let t = c .before .enum-told2 .given .1 in
+      rw t (c .free2 .ensures .0, omega (arith, c .free2 .ensures .1)),
 )
 
 returns-3 : tie.Need-returns-3
 unfolding settled
 returns-3 c = (
-  omega arith,
+  omega (arith, c .free3 .ensures .1),
   λ ys rs p q hk B g.
-      let t = c .before .before .enum-told3 .given .1 in
+      let t = c .before .before .before .enum-told3 .given .1 in
       let h = sym t ∙ g in
-      let z = line (c .before .before .before .before) p q hk in
-      rw t (c .answer-at .ensures _ _ _ z (c .before .choose .ensures _ _ _ _ z (tried-at p q hk B h refl One refl) (tried-at p q hk B h refl Two refl)), omega arith),
+      let z = line (c .before .before .before .before .before) p q hk in
+      let best = c .before .before .choose .ensures _ _ _ _ z (tried-at p q hk B h refl One refl) (tried-at p q hk B h refl Two refl) in
+      rw t (c .free3 .ensures .0 ∙ c .before .answer-at .ensures _ _ _ z best, omega (arith, c .free3 .ensures .1)),
 )
 
 returns-4 : tie.Need-returns-4
 unfolding settled
 returns-4 c = (
-  omega arith,
+  omega (arith, c .free4 .ensures .1),
   λ ys rs p q hk B g.
-      let t = c .enum-told4 .given .1 in
-      rw t (channel (c .before .before) rs q, omega arith),
+      let t = c .before .enum-told4 .given .1 in
+      rw t (c .free4 .ensures .0 ∙ channel (c .before .before .before) rs q, omega (arith, c .free4 .ensures .1)),
 )
 
 returns-5 : tie.Need-returns-5
 unfolding settled
 returns-5 c = (
-  omega arith,
+  omega (arith, c .free5 .ensures .1),
   λ ys rs p q hk B g.
-      let t = c .before .before .before .v .given .1 in
-      let h = sym t ∙ g in
-      let z = line (c .before .before .before .before .before) p q hk in
-      rw t (c .answer-at2 .ensures _ _ _ z (tried-at p q hk B h refl (c .before .before .before .v .given .0 .0) (c .before .tried-of .ensures)), omega arith),
+      let v = c .before .before .before .before .v .given in
+      let h = sym (v .1) ∙ g in
+      let z = line (c .before .before .before .before .before .before) p q hk in
+      let found = tried-at p q hk B h refl (v .0 .0) (c .before .before .tried-of .ensures) in
+      rw (v .1) (c .free5 .ensures .0 ∙ c .before .answer-at2 .ensures _ _ _ z found, omega (arith, c .free5 .ensures .1)),
 )
 
 returns-6 : tie.Need-returns-6
 unfolding settled
 returns-6 c = (
-  omega arith,
+  omega (arith, c .free6 .ensures .1),
   λ ys rs p q hk B g.
-      let t = c .before .before .before .v2 .given .1 in
-      let h = sym t ∙ g in
-      let z = line (c .before .before .before .before .before) p q hk in
-      rw t (c .answer-at3 .ensures _ _ _ z (tried-at p q hk B h refl (c .before .before .before .v2 .given .0 .0) (c .before .tried-of2 .ensures)), omega arith),
+      let v = c .before .before .before .before .v2 .given in
+      let h = sym (v .1) ∙ g in
+      let z = line (c .before .before .before .before .before .before) p q hk in
+      let found = tried-at p q hk B h refl (v .0 .0) (c .before .before .tried-of2 .ensures) in
+      rw (v .1) (c .free6 .ensures .0 ∙ c .before .answer-at3 .ensures _ _ _ z found, omega (arith, c .free6 .ensures .1)),
 )
 
 returns-7 : tie.Need-returns-7
@@ -161,48 +102,53 @@ returns-7 c = (
 returns-8 : tie.Need-returns-8
 unfolding settled
 returns-8 c = (
-  c .before .decode-packed .ensures .0,
+  c .fresh-cell .ensures .0,
   λ ys rs p q hk B g.
-      let t = c .before .before .enum-told5 .given .1 in
-      let h = sym t ∙ g in
-      let z = line (c .before .before .before .before) p q hk in
-      rw t (c .cell-at3 .ensures .1 _ _ (c .before .decode-packed .ensures .1 _ z .0), fresh-count p q hk B _ _ h (c .before .decode-packed .ensures .1 _ z .1)),
+      let t = c .before .enum-told5 .given .1 in
+      let whole = c .fresh-cell .ensures .1 _ (line (c .before .before .before) p q hk) in
+      rw t (whole .0, fresh-count p q hk B _ _ (sym t ∙ g) (whole .1)),
 )
 
 returns-9 : tie.Need-returns-9
 unfolding settled
 returns-9 c = (
-  omega arith,
+  omega (arith, c .free7 .ensures .1),
   λ ys rs p q hk B g.
-      let t = c .enum-told6 .given .1 in
-      rw t (channel (c .before .before) rs q, omega arith),
+      let t = c .before .enum-told6 .given .1 in
+      rw t (c .free7 .ensures .0 ∙ channel (c .before .before .before) rs q, omega (arith, c .free7 .ensures .1)),
 )
 
 pub settle-spec : {M : Type 1} → statement M
 settle-spec =
     tie.close
     (tie.spec
-    cell-at-requires
-    put-requires
-    enum-told
-    cell-at-requires-2
-    enum-told-2
-    enum-told-3
-    choose-requires
-    answer-at-requires
-    enum-told-4
-    enum-known-v
-    tried-of-requires
-    answer-at-requires-2
-    enum-known-v-2
-    tried-of-requires-2
-    answer-at-requires-3
-    enum-known-v-3
-    open-cell-requires
-    enum-told-5
-    decode-packed-requires
-    cell-at-requires-3
-    enum-told-6
+    (λ c κs. search needs)
+    (λ c κs. search needs)
+    (λ c. search needs)
+    (λ c κs. search needs)
+    (λ c κs. search needs)
+    (λ c. search needs)
+    (λ c κs. search needs)
+    (λ c. search needs)
+    (λ c κs. search needs)
+    (λ c κs. search needs)
+    (λ c κs. search needs)
+    (λ c. search needs)
+    (λ c κs. search needs)
+    (λ c. search needs)
+    (λ c κs. search needs)
+    (λ c κs. search needs)
+    (λ c κs. search needs)
+    (λ c. search needs)
+    (λ c κs. search needs)
+    (λ c κs. search needs)
+    (λ c κs. search needs)
+    (λ c. search needs)
+    (λ c κs. search needs)
+    (λ c. search needs)
+    (λ c κs. search needs)
+    (λ c. search needs)
+    (λ c κs. search needs)
     returns
     returns-2
     returns-3
