@@ -122,7 +122,7 @@ fn damage_lines(n: usize, kind: usize, state: &mut u64, cells: &mut [u8; 4096])
     }
 }
 
-// The rows, or the columns, in reverse order: lines the other way are codewords still, and these mostly are not.
+// The rows, or the columns, in reverse order: they are codewords still, and the lines of the other way mostly are not.
 fn reverse(n: usize, columns: bool, cells: &mut [u8; 4096])
     requires { ⌜ n ≤ 64 ⌝ }
 {

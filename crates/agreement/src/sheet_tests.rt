@@ -65,8 +65,9 @@ fn other_byte(kind: usize, n: usize, p: usize, input: &mut [u8; 4300])
         input[2 + p] = 50; // both of the last two
         input[2 + n] = 32;
     } else if kind == 12 {
-        input[1] = input[0]; // the degree with a zero before it
+        input[1] = input[0]; // a first line of the degree with a zero before it
         input[0] = 48;
+        input[2] = 10;
     }
 }
 

@@ -126,8 +126,8 @@ fn fresh_cell(d: Degree, z: Line, k: u32, filling: u64, count: u64, tables: &Fie
     }
 }
 
-// A message that takes no further decoding.
-fn free(cell: u64, count: u64) -> Settled
+// A message that costs no further decoding.
+fn at_no_cost(cell: u64, count: u64) -> Settled
     ensures { λ r. ⌜ (r .cell ≡ cell) × (r .count ≡ count) ⌝ }
 {
     Settled { cell, count }
@@ -151,15 +151,15 @@ fn settle(
     let c = cell_at(r, k);
     let z = put(y, k, c);
     match v {
-        Clause::Equal => free(cell_at(b.own, k), count),
-        Clause::Crowded => free(2, count),
-        Clause::Both => free(answer_at(z, choose(z, b.one.tried, b.two.tried), k), count),
-        Clause::Neither => free(c, count),
-        Clause::Agreeing(s) => free(answer_at(z, tried_of(b, s), k), count),
-        Clause::Unchanged(s) => free(answer_at(z, tried_of(b, s), k), count),
+        Clause::Equal => at_no_cost(cell_at(b.own, k), count),
+        Clause::Crowded => at_no_cost(2, count),
+        Clause::Both => at_no_cost(answer_at(z, choose(z, b.one.tried, b.two.tried), k), count),
+        Clause::Neither => at_no_cost(c, count),
+        Clause::Agreeing(s) => at_no_cost(answer_at(z, tried_of(b, s), k), count),
+        Clause::Unchanged(s) => at_no_cost(answer_at(z, tried_of(b, s), k), count),
         Clause::Open(s) => open_cell(d, z, c, k, filling, s, b, count, tables),
         Clause::Afresh => fresh_cell(d, z, k, filling, count, tables),
-        Clause::Channel => free(c, count),
+        Clause::Channel => at_no_cost(c, count),
     }
 }
 

@@ -27,65 +27,65 @@ module _ (c : tie.After-put) {ys rs : List ℕ} (p : Packs (size (c .before .bef
 returns : tie.Need-returns
 unfolding settled
 returns c = (
-  omega (arith, c .free .ensures .1),
+  omega (arith, c .at-no-cost .ensures .1),
   λ ys rs p q hk B g.
       let t = c .before .before .enum-told .given .1 in
       let own = equal-cell p q hk B (sym t ∙ g) (c .before .cell-at2 .ensures .1 _ _ (B .own)) in
-      rw t (c .free .ensures .0 ∙ own, omega (arith, c .free .ensures .1)),
+      rw t (c .at-no-cost .ensures .0 ∙ own, omega (arith, c .at-no-cost .ensures .1)),
 )
 
 returns-2 : tie.Need-returns-2
 unfolding settled
 returns-2 c = (
-  omega (arith, c .free2 .ensures .1),
+  omega (arith, c .at-no-cost2 .ensures .1),
   λ ys rs p q hk B g.
       let t = c .before .enum-told2 .given .1 in
-      rw t (c .free2 .ensures .0, omega (arith, c .free2 .ensures .1)),
+      rw t (c .at-no-cost2 .ensures .0, omega (arith, c .at-no-cost2 .ensures .1)),
 )
 
 returns-3 : tie.Need-returns-3
 unfolding settled
 returns-3 c = (
-  omega (arith, c .free3 .ensures .1),
+  omega (arith, c .at-no-cost3 .ensures .1),
   λ ys rs p q hk B g.
       let t = c .before .before .before .enum-told3 .given .1 in
       let h = sym t ∙ g in
       let z = line (c .before .before .before .before .before) p q hk in
       let best = c .before .before .choose .ensures _ _ _ _ z (tried-at p q hk B h refl One refl) (tried-at p q hk B h refl Two refl) in
-      rw t (c .free3 .ensures .0 ∙ c .before .answer-at .ensures _ _ _ z best, omega (arith, c .free3 .ensures .1)),
+      rw t (c .at-no-cost3 .ensures .0 ∙ c .before .answer-at .ensures _ _ _ z best, omega (arith, c .at-no-cost3 .ensures .1)),
 )
 
 returns-4 : tie.Need-returns-4
 unfolding settled
 returns-4 c = (
-  omega (arith, c .free4 .ensures .1),
+  omega (arith, c .at-no-cost4 .ensures .1),
   λ ys rs p q hk B g.
       let t = c .before .enum-told4 .given .1 in
-      rw t (c .free4 .ensures .0 ∙ channel (c .before .before .before) rs q, omega (arith, c .free4 .ensures .1)),
+      rw t (c .at-no-cost4 .ensures .0 ∙ channel (c .before .before .before) rs q, omega (arith, c .at-no-cost4 .ensures .1)),
 )
 
 returns-5 : tie.Need-returns-5
 unfolding settled
 returns-5 c = (
-  omega (arith, c .free5 .ensures .1),
+  omega (arith, c .at-no-cost5 .ensures .1),
   λ ys rs p q hk B g.
       let v = c .before .before .before .before .v .given in
       let h = sym (v .1) ∙ g in
       let z = line (c .before .before .before .before .before .before) p q hk in
       let found = tried-at p q hk B h refl (v .0 .0) (c .before .before .tried-of .ensures) in
-      rw (v .1) (c .free5 .ensures .0 ∙ c .before .answer-at2 .ensures _ _ _ z found, omega (arith, c .free5 .ensures .1)),
+      rw (v .1) (c .at-no-cost5 .ensures .0 ∙ c .before .answer-at2 .ensures _ _ _ z found, omega (arith, c .at-no-cost5 .ensures .1)),
 )
 
 returns-6 : tie.Need-returns-6
 unfolding settled
 returns-6 c = (
-  omega (arith, c .free6 .ensures .1),
+  omega (arith, c .at-no-cost6 .ensures .1),
   λ ys rs p q hk B g.
       let v = c .before .before .before .before .v2 .given in
       let h = sym (v .1) ∙ g in
       let z = line (c .before .before .before .before .before .before) p q hk in
       let found = tried-at p q hk B h refl (v .0 .0) (c .before .before .tried-of2 .ensures) in
-      rw (v .1) (c .free6 .ensures .0 ∙ c .before .answer-at3 .ensures _ _ _ z found, omega (arith, c .free6 .ensures .1)),
+      rw (v .1) (c .at-no-cost6 .ensures .0 ∙ c .before .answer-at3 .ensures _ _ _ z found, omega (arith, c .at-no-cost6 .ensures .1)),
 )
 
 returns-7 : tie.Need-returns-7
@@ -112,10 +112,10 @@ returns-8 c = (
 returns-9 : tie.Need-returns-9
 unfolding settled
 returns-9 c = (
-  omega (arith, c .free7 .ensures .1),
+  omega (arith, c .at-no-cost7 .ensures .1),
   λ ys rs p q hk B g.
       let t = c .before .enum-told6 .given .1 in
-      rw t (c .free7 .ensures .0 ∙ channel (c .before .before .before) rs q, omega (arith, c .free7 .ensures .1)),
+      rw t (c .at-no-cost7 .ensures .0 ∙ channel (c .before .before .before) rs q, omega (arith, c .at-no-cost7 .ensures .1)),
 )
 
 pub settle-spec : {M : Type 1} → statement M
