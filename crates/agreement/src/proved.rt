@@ -3,9 +3,9 @@
 use crate::parts::first;
 use crate::parts::first_mut;
 use crate::parts::first_words;
-use decoder::entry::DecodeAnswer;
-use extrinsic::entry::MessagesAnswer;
+use array::entry::DecodeAnswer;
 use line::entry::LineAnswer;
+use line::outgoing::MessagesAnswer;
 use line::refusals::Refusal;
 
 fn number(why: Refusal) -> u64 {
@@ -63,7 +63,7 @@ pub fn line_messages(
     messages: &mut [u8],
     messages_long: usize,
 ) -> MessagesResult {
-    let answer = extrinsic::entry::line_messages(
+    let answer = line::outgoing::line_messages(
         degree,
         first(incoming, incoming_long),
         first(channel, channel_long),
@@ -99,7 +99,7 @@ pub fn decode(
     cells: &mut [u8],
     cells_long: usize,
 ) -> DecodeResult {
-    let answer = decoder::entry::decode(
+    let answer = array::entry::decode(
         degree,
         iterations,
         first(received, received_long),

@@ -9,17 +9,18 @@ use native.Mathlib.Omega.{arith}
 use lib.ListN.{length, getD}
 use lib.Seq.{ext-getD}
 use Rattle.laws.proofs.Bits.{bit-one}
-use Rattle.field.specs.declared.degree.Degree.{Degree}
-use Rattle.field.specs.Degree.{size}
-use Rattle.packed.specs.Cells.{IsWord}
+use Rattle.degree.specs.declared.Degree.{Degree}
+use Rattle.degree.specs.Degree.{size}
+use Rattle.line.specs.Cells.{IsWord}
 use Rattle.line.specs.Codeword.{Codeword}
-use Rattle.packed.proofs.CellLaws.{Bits}
-use Rattle.packed.specs.Arrays.{line, lines, transpose}
-use Rattle.array.specs.Encoding.{checkSize, messageSize, encodeLine, messageOf, encodeLines, encodeArray, columnsFirst, extracted, ProductCodeword}
-use Rattle.packed.proofs.ArrayLaws.{Even, each-cell, line-at, length-line, line-small, length-transpose, transpose-at, transpose-cells, transpose-transpose, length-lines, line-lines, lines-are, array-ext}
+use Rattle.line.proofs.CellLaws.{Bits}
+use Rattle.array.specs.Arrays.{line, lines, transpose}
+use Rattle.line.specs.Encoding.{checkSize, messageSize, encodeLine, messageOf}
+use Rattle.array.specs.Encoding.{encodeLines, encodeArray, columnsFirst, extracted, ProductCodeword}
+use Rattle.array.proofs.ArrayLaws.{Even, each-cell, line-at, length-line, line-small, length-transpose, transpose-at, transpose-cells, transpose-transpose, length-lines, line-lines, lines-are, array-ext}
 use Rattle.laws.specs.Sums.{xorTo}
-use Rattle.field.proofs.Linear.{one, to-cong, to-swap, to-map, sum-to, times-adds}
-use Rattle.array.proofs.LineEncoding.{inverse, message-at, length-message, line-codeword, line-holds, line-only, summed}
+use Rattle.laws.proofs.Linear.{one, to-cong, to-swap, to-map, sum-to, times-adds}
+use Rattle.line.proofs.LineEncoding.{inverse, message-at, length-message, line-codeword, line-holds, line-only, summed}
 
 module _ (d : Degree) where
   abbrev n : ℕ

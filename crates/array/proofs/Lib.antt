@@ -1,6 +1,13 @@
-pub mod LineEncoding
+pub mod ArrayLaws
+pub mod WordLaws
 pub mod ArrayEncoding
 mod PackedEncoding
-mod Bounds
 mod Loops
 pub mod Refusing
+pub mod PackedLaws
+pub mod HalfLaws
+pub mod RunLaws
+pub mod ReportLaws
+pub mod DecodeLaws
+pub mod Theorem
+pub mod SentArrays

@@ -15,14 +15,14 @@ use lib.ListN.{length, take, drop, getD, set, length-set, length-drop, drop-of-l
 use lib.Seq.{length-take-le, getD-take, getD-drop, ext-getD, take-suc-set, take-all, take-at, drop-at, drop-drop, getD-set-same, getD-set-other}
 use Rattle.laws.specs.Bits.{bitAt}
 use Rattle.laws.proofs.Bits.{bit-at-lt}
-use Rattle.field.specs.Syndrome.{sumOver, digits}
-use Rattle.packed.specs.Arrays.{line, lines}
+use Rattle.laws.specs.Digits.{sumOver, digits}
+use Rattle.array.specs.Arrays.{line, lines}
 use Rattle.array.specs.Units.{encodedWord, rowWord}
 use Rattle.laws.specs.Sums.{xorTo}
-use Rattle.packed.proofs.ArrayLaws.{Even, line-at, length-line, length-lines, line-room}
-use Rattle.array.proofs.Bounds.{square-le}
-use Rattle.field.proofs.Sums.{cell, sum-more}
-use Rattle.field.proofs.Linear.{to-last}
+use Rattle.array.proofs.ArrayLaws.{Even, line-at, length-line, length-lines, line-room}
+use Rattle.line.proofs.Bounds.{square-le}
+use Rattle.laws.proofs.DigitSums.{cell, sum-more}
+use Rattle.laws.proofs.Linear.{to-last}
 
 -- ---- a message row, a cell a turn
 

@@ -16,19 +16,20 @@ use Rattle.laws.specs.Bits.{bitAt}
 use Rattle.laws.proofs.Bits.{bit-one}
 use Rattle.laws.proofs.Tests.{every, every-at}
 use Rattle.laws.proofs.Xor.{digit-lt}
-use Rattle.field.specs.declared.degree.Degree.{Degree}
-use Rattle.field.specs.Degree.{size, order}
-use Rattle.field.specs.Syndrome.{sumOver, ones, digits, pack}
-use Rattle.packed.specs.Cells.{IsWord}
-use Rattle.packed.proofs.CellLaws.{Bits}
-use Rattle.packed.specs.Arrays.{line, lines}
-use Rattle.array.specs.Encoding.{checkSize, messageSize, sums, checksFor, checkCells, encodeLine, encodeLines, encodeArray, ProductCodeword}
+use Rattle.degree.specs.declared.Degree.{Degree}
+use Rattle.degree.specs.Degree.{size, order}
+use Rattle.laws.specs.Digits.{sumOver, ones, digits, pack}
+use Rattle.line.specs.Cells.{IsWord}
+use Rattle.line.proofs.CellLaws.{Bits}
+use Rattle.array.specs.Arrays.{line, lines}
+use Rattle.line.specs.Encoding.{checkSize, messageSize, sums, checksFor, checkCells, encodeLine}
+use Rattle.array.specs.Encoding.{encodeLines, encodeArray, ProductCodeword}
 use Rattle.array.specs.Units.{Units, Words, encodedWord, rowWord}
-use Rattle.packed.proofs.ArrayLaws.{line-at, length-line, line-small, lines-are}
-use Rattle.field.proofs.Sums.{sum-cong, sum-ones, sum-append, digits-length}
+use Rattle.array.proofs.ArrayLaws.{line-at, length-line, line-small, lines-are}
+use Rattle.laws.proofs.DigitSums.{sum-cong, sum-ones, sum-append, digits-length}
 use Rattle.laws.specs.Sums.{xorTo}
-use Rattle.field.proofs.Linear.{one, sum-step, Additive, sum-map, then-adds, times-adds, shift-adds, sumDigits, digits-adds, digits-power, digits-bits, digits-at, pack-digits, digits-pack, pack-lt, pack-append, to-cong, to-both, to-swap, to-map, sum-to}
-use Rattle.array.proofs.LineEncoding.{inverse, length-checks, length-body, line-codeword, summed}
+use Rattle.laws.proofs.Linear.{one, sum-step, Additive, sum-map, then-adds, times-adds, shift-adds, sumDigits, digits-adds, digits-power, digits-bits, digits-at, pack-digits, digits-pack, pack-lt, pack-append, to-cong, to-both, to-swap, to-map, sum-to}
+use Rattle.line.proofs.LineEncoding.{inverse, length-checks, length-body, line-codeword, summed}
 use Rattle.array.proofs.ArrayEncoding.{line-coded, encoded-line, cell-rows, encode-codeword}
 
 module _ (d : Degree) where

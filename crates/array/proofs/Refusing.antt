@@ -9,19 +9,19 @@ use native.Mathlib.Omega.{arith}
 use borrow.Author.Tests.{eqb-true, ltb-true, leb-true, eq-eqb, ne-eqb}
 use lib.Dec.{eqb, ltb, leb}
 use lib.ListN.{length, take, drop}
-use Rattle.field.specs.declared.degree.Degree.{Degree}
-use Rattle.field.specs.declared.degree.Named.{Named}
-use Rattle.field.specs.declared.degree.Named.the-variants.{Known, Unknown}
-use Rattle.field.specs.Degree.{size, named}
-use Rattle.packed.specs.Cells.{IsWord}
+use Rattle.degree.specs.declared.Degree.{Degree}
+use Rattle.degree.specs.declared.Named.{Named}
+use Rattle.degree.specs.declared.Named.the-variants.{Known, Unknown}
+use Rattle.degree.specs.Degree.{size, named}
+use Rattle.line.specs.Cells.{IsWord}
 use Rattle.line.specs.Refusals.{atMost}
 use Rattle.line.proofs.EntryLaws.{at-most-small}
 use Rattle.laws.proofs.Tests.{and-true}
-use Rattle.packed.specs.Arrays.{line}
-use Rattle.array.specs.Encoding.{messageSize}
+use Rattle.array.specs.Arrays.{line}
+use Rattle.line.specs.Encoding.{messageSize}
 use Rattle.array.specs.Refusals.{test, refusal, left, Answered, encodeTests, extractTests, rowTests}
-use Rattle.packed.proofs.ArrayLaws.{line-room}
-use Rattle.array.proofs.Bounds.{square-le, size-le}
+use Rattle.array.proofs.ArrayLaws.{line-room}
+use Rattle.line.proofs.Bounds.{square-le, size-le}
 
 -- ---- the tests of a taken call pass
 

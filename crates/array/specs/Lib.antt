@@ -1,3 +1,11 @@
+pub mod Arrays
+pub mod PackedRows
 pub mod Encoding
 pub mod Refusals
 pub mod Units
+pub mod Halves
+pub mod Steps
+pub mod Plain
+pub mod DecodeRefusals
+pub mod Entries
+pub mod Runs

@@ -6,13 +6,14 @@ use mathlib.Core.List.{List, []}
 use Prim.Native.Nat.{ℕ, _*_}
 use lib.Dec.{eqb, ltb}
 use lib.ListN.{length}
-use Rattle.field.specs.declared.degree.Degree.{Degree}
-use Rattle.field.specs.declared.degree.Named.{Named}
-use Rattle.field.specs.declared.degree.Named.the-variants.{Known, Unknown}
-use Rattle.field.specs.Degree.{size, named}
+use Rattle.degree.specs.declared.Degree.{Degree}
+use Rattle.degree.specs.declared.Named.{Named}
+use Rattle.degree.specs.declared.Named.the-variants.{Known, Unknown}
+use Rattle.degree.specs.Degree.{size, named}
 use Rattle.line.specs.Refusals.{atMost}
-use Rattle.packed.specs.Arrays.{line}
-use Rattle.array.specs.Encoding.{messageSize, encodeArray, extracted}
+use Rattle.array.specs.Arrays.{line}
+use Rattle.line.specs.Encoding.{messageSize}
+use Rattle.array.specs.Encoding.{encodeArray, extracted}
 
 -- a test: where it fails its number, else what the tests after it give, 0 in the end
 abbrev pub test : ℕ → Bool → ℕ → ℕ

@@ -6,10 +6,10 @@ use Prim.Native.Nat.{ℕ, _*_, _^_, _<_}
 use lib.ListN.{length, getD}
 use Rattle.laws.specs.Bits.{bitAt}
 use Rattle.laws.specs.Sums.{xorTo}
-use Rattle.field.specs.declared.degree.Degree.{Degree}
-use Rattle.field.specs.Syndrome.{sumOver, digits, pack}
-use Rattle.packed.specs.Arrays.{line}
-use Rattle.array.specs.Encoding.{messageSize, encodeLine}
+use Rattle.degree.specs.declared.Degree.{Degree}
+use Rattle.laws.specs.Digits.{sumOver, digits, pack}
+use Rattle.array.specs.Arrays.{line}
+use Rattle.line.specs.Encoding.{messageSize, encodeLine}
 
 -- entry a of a table of units: the encoded line, as a number, of the message whose one 1 is cell a
 pub record Units (d : Degree) (t : List ℕ) : Type 0 where

@@ -1,17 +1,18 @@
 // Encoding an array on packed words, by a fixed table of encoded units for each degree.
 use crate::refusals::encode_tests;
-use field::degree::Degree;
-use field::degree::Named;
-use field::degree::degree_of;
-use field::degree::size_of;
+use degree::Degree;
+use degree::Named;
+use degree::degree_of;
+use degree::size_of;
 ghost use mathlib.Core.Path.{_≡_};
 ghost use Prim.Native.Nat.{_*_, _<_, _≤_};
 ghost use lib.ListN.{length};
-ghost use Rattle.field.specs.Degree.{size};
-ghost use Rattle.field.specs.Syndrome.{digits};
-ghost use Rattle.packed.specs.Cells.{IsWord};
-ghost use Rattle.packed.specs.Arrays.{lines};
-ghost use Rattle.array.specs.Encoding.{messageSize, encodeArray};
+ghost use Rattle.degree.specs.Degree.{size};
+ghost use Rattle.laws.specs.Digits.{digits};
+ghost use Rattle.line.specs.Cells.{IsWord};
+ghost use Rattle.array.specs.Arrays.{lines};
+ghost use Rattle.line.specs.Encoding.{messageSize};
+ghost use Rattle.array.specs.Encoding.{encodeArray};
 ghost use Rattle.array.specs.Refusals.{Encoded};
 ghost use Rattle.array.specs.Units.{Units, Words, encodedWord, rowWord};
 

@@ -2,16 +2,17 @@
 use crate::refusals::extract_tests;
 use crate::sizes::check_size_of;
 use crate::sizes::message_size_of;
-use field::degree::Degree;
-use field::degree::Named;
-use field::degree::degree_of;
-use field::degree::size_of;
-use packed::copying::copy_cells;
+use degree::Degree;
+use degree::Named;
+use degree::degree_of;
+use degree::size_of;
+use words::copying::copy_cells;
 ghost use mathlib.Core.Path.{_≡_};
 ghost use Prim.Native.Nat.{_*_};
 ghost use lib.ListN.{length};
-ghost use Rattle.field.specs.Degree.{size};
-ghost use Rattle.array.specs.Encoding.{messageSize, extracted};
+ghost use Rattle.degree.specs.Degree.{size};
+ghost use Rattle.line.specs.Encoding.{messageSize};
+ghost use Rattle.array.specs.Encoding.{extracted};
 ghost use Rattle.array.specs.Refusals.{Extracted};
 
 // The message cells, row after row.

@@ -1,6 +1,13 @@
-// Arrays of n by n cells: encoding, taking the message out, and the look-up of a row.
+// Arrays of n by n cells: encoding, taking the message out, the look-up of a row, and decoding.
 mod sizes; // k, and the check cells below the message
 pub mod encoding; // encode
 pub mod extraction; // extract
 pub mod rows; // the look-up of a row
-mod refusals; // the tests of a call
+mod refusals; // the tests of the calls encode, extract and row
+mod packing; // the rows of an array, packed in words
+mod halves; // the row half and the column half
+mod iterations; // the iterations of a decoding
+pub mod report; // what is told of the array that a decoding leaves
+mod decoding; // the decoding of an array that was taken
+mod decode_refusals; // the tests of the call decode
+pub mod entry; // decode, for a caller outside

@@ -1,7 +1,7 @@
 // The tests 3 and 4 of encode, extract and the look-up of a row, after `degree_of` at the entry.
 use crate::sizes::message_size_of;
-use field::degree::Degree;
-use field::degree::size_of;
+use degree::Degree;
+use degree::size_of;
 use line::refusals::at_most;
 ghost use mathlib.Core.Path.{_≡_};
 ghost use Rattle.array.specs.Refusals.{lentTests, encodeTests, extractTests, rowTests};

@@ -1,8 +1,8 @@
 // The look-up of a row.
 use crate::refusals::row_tests;
-use field::degree::Named;
-use field::degree::degree_of;
-use field::degree::size_of;
+use degree::Named;
+use degree::degree_of;
+use degree::size_of;
 ghost use mathlib.Core.Path.{_≡_};
 ghost use Rattle.array.specs.Refusals.{rowRefusal, rowPart};
 

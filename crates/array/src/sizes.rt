@@ -1,7 +1,7 @@
-use field::degree::Degree;
-use packed::line::Line;
+use degree::Degree;
+use line::packed::Line;
 ghost use mathlib.Core.Path.{_≡_};
-ghost use Rattle.array.specs.Encoding.{checkSize, messageSize};
+ghost use Rattle.line.specs.Encoding.{checkSize, messageSize};
 
 // k, the message cells of a line.
 pub fn message_size_of(d: Degree) -> usize

@@ -10,22 +10,22 @@ use borrow.Author.Tests.{eqb-true}
 use lib.Dec.{eqb}
 use lib.ListN.{length, getD}
 use Rattle.laws.specs.Bits.{bit}
-use Rattle.field.specs.declared.degree.Degree.{Degree}
-use Rattle.field.specs.declared.degree.Degree.the-variants.{Four, Six}
-use Rattle.field.specs.declared.degree.Named.{Named}
-use Rattle.field.specs.declared.degree.Named.the-variants.{Known, Unknown}
-use Rattle.field.specs.Degree.{size, named}
+use Rattle.degree.specs.declared.Degree.{Degree}
+use Rattle.degree.specs.declared.Degree.the-variants.{Four, Six}
+use Rattle.degree.specs.declared.Named.{Named}
+use Rattle.degree.specs.declared.Named.the-variants.{Known, Unknown}
+use Rattle.degree.specs.Degree.{size, named}
 use Rattle.line.specs.declared.refusals.Refusal.{Refusal}
 use Rattle.line.specs.declared.refusals.Refusal.the-variants.{BadDegree, BadIterations, BadLength}
 use Rattle.line.specs.declared.refusals.Call.{Call}
 use Rattle.line.specs.declared.refusals.Call.the-variants.{Taken, Refused}
-use Rattle.decoder.specs.declared.entry.DecodeAnswer.{DecodeAnswer}
-use Rattle.packed.specs.Arrays.{line}
+use Rattle.array.specs.declared.entry.DecodeAnswer.{DecodeAnswer}
+use Rattle.array.specs.Arrays.{line}
 use Rattle.line.specs.Refusals.{refusalIn}
-use Rattle.decoder.specs.Refusals.{counted, decodeTested as testedBelow, decodeCall as catMost}
+use Rattle.array.specs.DecodeRefusals.{counted, decodeTested as testedBelow, decodeCall as catMost}
 use Rattle.array.specs.Refusals.{refusal, left, rowRefusal, rowPart, rowTests as testsBelow}
-use Rattle.decoder.specs.Entries.{DecodeDone, refusalOf, cellsFor}
-use Rattle.packed.proofs.ArrayLaws.{length-line}
+use Rattle.array.specs.Entries.{DecodeDone, refusalOf, cellsFor}
+use Rattle.array.proofs.ArrayLaws.{length-line}
 use Rattle.array.proofs.Refusing.{row-taken, row-room}
 use Rattle.export.specs.Reports.{fits, told}
 use Rattle.export.specs.ArrayCalls.{decodeTested, decodeCall, decodeNumbers, numbersFor, DecodeTold, rowTests, rowNumbers, RowTold}

@@ -7,22 +7,22 @@ use Prim.Native.Nat.{ℕ}
 use native.Mathlib.Omega.{arith}
 use lib.ListN.{length, take, drop, drop-of-length-le}
 use Rattle.laws.specs.Bits.{bit}
-use Rattle.field.specs.declared.degree.Degree.{Degree}
-use Rattle.field.specs.declared.degree.Degree.the-variants.{Four, Six}
-use Rattle.field.specs.declared.degree.Named.{Named}
-use Rattle.field.specs.declared.degree.Named.the-variants.{Known, Unknown}
-use Rattle.field.specs.Degree.{named}
+use Rattle.degree.specs.declared.Degree.{Degree}
+use Rattle.degree.specs.declared.Degree.the-variants.{Four, Six}
+use Rattle.degree.specs.declared.Named.{Named}
+use Rattle.degree.specs.declared.Named.the-variants.{Known, Unknown}
+use Rattle.degree.specs.Degree.{named}
 use Rattle.line.specs.declared.refusals.Refusal.{Refusal}
 use Rattle.line.specs.declared.refusals.Refusal.the-variants.{BadDegree, BadLength}
 use Rattle.line.specs.declared.refusals.Call.{Call}
 use Rattle.line.specs.declared.refusals.Call.the-variants.{Refused}
 use Rattle.line.specs.declared.entry.LineAnswer.{LineAnswer}
-use Rattle.extrinsic.specs.declared.entry.MessagesAnswer.{MessagesAnswer}
+use Rattle.line.specs.declared.outgoing.MessagesAnswer.{MessagesAnswer}
 use Rattle.line.specs.Bounded.{Answer, Failed, orBack}
 use Rattle.line.specs.Refusals.{refusalIn, long, atMost, tested, lineCall as lineBelow}
-use Rattle.extrinsic.specs.Refusals.{messagesCall as messagesBelow}
+use Rattle.line.specs.MessageRefusals.{messagesCall as messagesBelow}
 use Rattle.line.specs.Entries.{isFound, refusalOf, foundOf, Answered}
-use Rattle.extrinsic.specs.Entries.{sentRefusal, sentCount, MessagesDone, messagesFor, countFor}
+use Rattle.line.specs.MessageEntries.{sentRefusal, sentCount, MessagesDone, messagesFor, countFor}
 use Rattle.export.specs.Reports.{fits, told}
 use Rattle.export.specs.LineCalls.{lineCall, messagesCall, LineTold, MessagesTold}
 use Rattle.export.proofs.Handing.{Both, both, alike, lent-length, lent-part}

@@ -8,20 +8,20 @@ use Prim.Native.Nat.{ℕ, _*_}
 use lib.Dec.{eqb, ltb}
 use lib.ListN.{length, getD}
 use Rattle.laws.specs.Bits.{bit}
-use Rattle.field.specs.declared.degree.Degree.{Degree}
-use Rattle.field.specs.declared.degree.Named.{Named}
-use Rattle.field.specs.declared.degree.Named.the-variants.{Known, Unknown}
-use Rattle.field.specs.Degree.{size, named}
+use Rattle.degree.specs.declared.Degree.{Degree}
+use Rattle.degree.specs.declared.Named.{Named}
+use Rattle.degree.specs.declared.Named.the-variants.{Known, Unknown}
+use Rattle.degree.specs.Degree.{size, named}
 use Rattle.line.specs.declared.refusals.Refusal.the-variants.{BadDegree}
 use Rattle.line.specs.declared.refusals.Call.{Call}
 use Rattle.line.specs.declared.refusals.Call.the-variants.{Taken, Refused}
-use Rattle.decoder.specs.declared.entry.DecodeAnswer.{DecodeAnswer}
+use Rattle.array.specs.declared.entry.DecodeAnswer.{DecodeAnswer}
 use Rattle.array.specs.Encoding.{Sent}
-use Rattle.decoder.specs.Plain.{RowCondition}
+use Rattle.array.specs.Plain.{RowCondition}
 use Rattle.line.specs.Refusals.{refusalIn, atMost}
-use Rattle.decoder.specs.Refusals.{counted, fitting, tested}
+use Rattle.array.specs.DecodeRefusals.{counted, fitting, tested}
 use Rattle.array.specs.Refusals.{test, refusal, left}
-use Rattle.decoder.specs.Entries.{countOf, erasuresOf, closedOf, cellsFor, countFor, erasuresFor, closedFor}
+use Rattle.array.specs.Entries.{countOf, erasuresOf, closedOf, cellsFor, countFor, erasuresFor, closedFor}
 use Rattle.export.specs.Reports.{fits, told}
 
 -- ---- decode, with l iterations, received array r, filling words w, and the cells to write s

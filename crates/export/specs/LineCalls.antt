@@ -5,12 +5,12 @@ use mathlib.Core.Bool.{Bool, _&&_}
 use mathlib.Core.List.{List, [], _∷_}
 use Prim.Native.Nat.{ℕ}
 use Rattle.laws.specs.Bits.{bit}
-use Rattle.field.specs.Degree.{named}
+use Rattle.degree.specs.Degree.{named}
 use Rattle.line.specs.declared.refusals.Call.{Call}
 use Rattle.line.specs.Bounded.{Answer, orBack}
 use Rattle.line.specs.Refusals.{refusalIn, long, atMost, tested}
 use Rattle.line.specs.Entries.{isFound, boundedFor, decodeFor}
-use Rattle.extrinsic.specs.Entries.{messagesFor, countFor}
+use Rattle.line.specs.MessageEntries.{messagesFor, countFor}
 use Rattle.export.specs.Reports.{fits, told}
 
 -- ---- the tests; `fit` says whether the report has its length

@@ -4,14 +4,14 @@ use crate::reports::lent;
 use crate::reports::number_of;
 use crate::reports::tell;
 use array::encoding::encode;
+use array::entry::DecodeAnswer;
+use array::entry::decode;
 use array::extraction::extract;
 use array::rows::row;
 use array::rows::row_refusal;
-use decoder::entry::DecodeAnswer;
-use decoder::entry::decode;
 ghost use mathlib.Core.Path.{_≡_};
 ghost use Rattle.array.specs.Refusals.{Encoded, Extracted};
-ghost use Rattle.decoder.specs.Entries.{refusalOf};
+ghost use Rattle.array.specs.Entries.{refusalOf};
 ghost use Rattle.export.specs.ArrayCalls.{decodeNumbers, DecodeTold, RowTold};
 
 // ---- an answer in document 01's numbers

@@ -5,9 +5,9 @@ use Prim.Native.Nat.{ℕ, zero, suc, _+_, _*_, _/_}
 use native.Mathlib.Nat.{zero-add, suc-add, add-comm}
 use lib.Bits.{bitXor, xor-shr, xor-self}
 use Rattle.laws.proofs.Xor.{digit-lt, xor-digit, xor-twice, xor-scale, xors}
-use Rattle.field.specs.declared.degree.Degree.{Degree}
-use Rattle.field.specs.Degree.{size, polynomial}
-use Rattle.field.specs.Field.{double, timesPower}
+use Rattle.degree.specs.declared.Degree.{Degree}
+use Rattle.degree.specs.Degree.{size}
+use Rattle.field.specs.Field.{polynomial, double, timesPower}
 
 module _ (d : Degree) where
   pub double-xor : (x y : ℕ) → double d (bitXor x y) ≡ bitXor (double d x) (double d y)

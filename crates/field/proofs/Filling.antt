@@ -12,15 +12,15 @@ use lib.Bits.{bitXor}
 use lib.ListN.{length, getD, set, replicate}
 use lib.Pow.{pow-mono}
 use lib.Seq.{getD-set-same, getD-set-other}
-use Rattle.field.specs.declared.degree.Degree.{Degree}
-use Rattle.field.specs.Degree.{size, order}
+use Rattle.degree.specs.declared.Degree.{Degree}
+use Rattle.degree.specs.Degree.{size, order}
 use Rattle.field.specs.Field.{timesPower, power}
-use Rattle.field.specs.Syndrome.{sumOver, digits}
+use Rattle.laws.specs.Digits.{sumOver, digits}
 use Rattle.field.specs.Tables.{Powers, Weights, Logs, Tables, weight}
 use Rattle.field.specs.Building.{Doubled, Block, Summed}
 use Rattle.field.proofs.Doubling.{times-add}
 use Rattle.field.proofs.Primitive.{primitive}
-use Rattle.field.proofs.Sums.{sum-cong, digits-length, sum-digits-zero, sum-top}
+use Rattle.laws.proofs.DigitSums.{sum-cong, digits-length, sum-digits-zero, sum-top}
 use Rattle.field.proofs.Weights.{power-small, weight-below, weight-last, weight-past}
 
 -- ---- the empty table

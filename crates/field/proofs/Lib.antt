@@ -4,10 +4,8 @@ pub mod Powers
 pub mod Products
 pub mod Uniqueness
 pub mod PowerTable
-pub mod Sums
 pub mod Weights
 pub mod Filling
 pub mod Reading
 pub mod Locating
 pub mod Search
-pub mod Linear

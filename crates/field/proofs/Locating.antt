@@ -8,10 +8,10 @@ use native.Mathlib.Decide.{decLt}
 use native.Mathlib.Omega.{arith}
 use borrow.Author.Tests.{eqb-true, eq-eqb}
 use lib.Dec.{eqb}
-use Rattle.field.specs.declared.degree.Degree.{Degree}
+use Rattle.degree.specs.declared.Degree.{Degree}
 use Rattle.field.specs.declared.locate.Positions.{Positions}
 use Rattle.field.specs.declared.locate.Positions.the-variants.{Zero, One, Two, Unfit}
-use Rattle.field.specs.Degree.{order}
+use Rattle.degree.specs.Degree.{order}
 use Rattle.field.specs.Field.{power}
 use Rattle.field.specs.Positions.{total, fitting, orElse, firstOf, located}
 use Rattle.field.specs.Fitting.{Within, Fits}

@@ -10,8 +10,8 @@ use native.Mathlib.Numerals.{add-one}
 use lib.Dec.{T, eqb, eqb→eq}
 use lib.ListN.{length, getD}
 use Rattle.laws.proofs.Tests.{and-left, and-right}
-use Rattle.field.specs.declared.degree.Degree.{Degree}
-use Rattle.field.specs.Degree.{order}
+use Rattle.degree.specs.declared.Degree.{Degree}
+use Rattle.degree.specs.Degree.{order}
 use Rattle.field.specs.Field.{double, timesPower}
 use Rattle.field.specs.Tables.{Powers}
 use Rattle.field.proofs.Doubling.{times-add}

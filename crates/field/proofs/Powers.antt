@@ -6,8 +6,8 @@ use Prim.Native.Nat.{ℕ, zero, suc, _+_, _-_, _<_}
 use native.Mathlib.Omega.{arith}
 use lib.Bits.{bitXor, xor-lt}
 use Rattle.laws.proofs.Xor.{xor-eq}
-use Rattle.field.specs.declared.degree.Degree.{Degree}
-use Rattle.field.specs.Degree.{bits, size, order}
+use Rattle.degree.specs.declared.Degree.{Degree}
+use Rattle.degree.specs.Degree.{bits, size, order}
 use Rattle.field.specs.Field.{double, timesPower, power}
 use Rattle.field.proofs.Doubling.{times-zero, times-add, times-comm}
 use Rattle.field.proofs.Primitive.{primitive}

@@ -8,10 +8,10 @@ use Prim.Native.Nat.{ℕ, zero, suc, _<_, _≤_}
 use native.Mathlib.Omega.{arith}
 use lib.Dec.{T, eqb, ltb, leb, eqb→eq, ltb→lt, leb→le}
 use Rattle.laws.proofs.Tests.{and-left, and-right, every, every-at}
-use Rattle.field.specs.declared.degree.Degree.{Degree}
-use Rattle.field.specs.declared.degree.Degree.the-variants.{Four, Six}
-use Rattle.field.specs.Degree.{bits, size, order, polynomial}
-use Rattle.field.specs.Field.{double, timesPower, power, productOf}
+use Rattle.degree.specs.declared.Degree.{Degree}
+use Rattle.degree.specs.declared.Degree.the-variants.{Four, Six}
+use Rattle.degree.specs.Degree.{bits, size, order}
+use Rattle.field.specs.Field.{polynomial, double, timesPower, power, productOf}
 
 pub record Primitive (d : Degree) : Type 0 where
   -- doubling an element gives an element

@@ -8,15 +8,15 @@ use native.Mathlib.Omega.{arith}
 use lib.Bits.{bitXor}
 use lib.ListN.{getD}
 use lib.Pow.{shr-shr}
-use Rattle.field.specs.declared.degree.Degree.{Degree}
-use Rattle.field.specs.Degree.{size, order}
+use Rattle.degree.specs.declared.Degree.{Degree}
+use Rattle.degree.specs.Degree.{size, order}
 use Rattle.field.specs.Field.{power, product}
-use Rattle.field.specs.Syndrome.{sumOver, digits}
+use Rattle.laws.specs.Digits.{sumOver, digits}
 use Rattle.field.specs.Tables.{Logs, Tables, weight}
 use Rattle.field.proofs.Primitive.{primitive}
 use Rattle.field.proofs.Products.{product-powers}
 use Rattle.field.proofs.Weights.{weight-power, weight-cube, weight-two}
-use Rattle.field.proofs.Sums.{sum-append, digits-length, digits-low, digits-append}
+use Rattle.laws.proofs.DigitSums.{sum-append, digits-length, digits-low, digits-append}
 
 module _ (d : Degree) where
   -- the sections of entry i

@@ -10,14 +10,15 @@ use native.Mathlib.Decide.{decLt}
 use native.Mathlib.Omega.{arith}
 use lib.Bits.{bitXor}
 use lib.ListN.{take}
-use Rattle.field.specs.declared.degree.Degree.{Degree}
-use Rattle.field.specs.Degree.{bits, size, order}
+use Rattle.degree.specs.declared.Degree.{Degree}
+use Rattle.degree.specs.Degree.{bits, size, order}
 use Rattle.field.specs.Field.{power}
-use Rattle.field.specs.Syndrome.{sumOver, s1, s3, parity}
-use Rattle.field.specs.Tables.{upTo, weight}
+use Rattle.laws.specs.Digits.{sumOver, upTo}
+use Rattle.field.specs.Syndrome.{s1, s3, parity}
+use Rattle.field.specs.Tables.{weight}
 use Rattle.field.proofs.Primitive.{primitive}
 use Rattle.field.proofs.Powers.{power-lt}
-use Rattle.field.proofs.Sums.{sum-lt, xor-pair, sum-pair, sum-ones, up-to-below, up-to-past, sum-up-to}
+use Rattle.laws.proofs.DigitSums.{sum-lt, xor-pair, sum-pair, sum-ones, up-to-below, up-to-past, sum-up-to}
 
 module _ (d : Degree) where
   -- an element has at most 6 binary digits

@@ -5,7 +5,7 @@ use mathlib.Core.List.{List}
 use Prim.Native.Nat.{ℕ, _+_, _*_, _<_}
 use lib.Bits.{bitXor}
 use lib.ListN.{getD}
-use Rattle.field.specs.Syndrome.{sumOver, digits}
+use Rattle.laws.specs.Digits.{sumOver, digits}
 
 -- the first k of `size` entries from base + size on are made, all before stands
 pub record Doubled (base size weight k : ℕ) (a b : List ℕ) : Type 0 where

@@ -2,8 +2,14 @@
 -- An element is a number below n whose bit i is the coefficient of α^i; the sum of two elements is their exclusive or.
 use Prim.Native.Nat.{ℕ, zero, suc, _*_, _/_, _%_}
 use lib.Bits.{bitXor}
-use Rattle.field.specs.declared.degree.Degree.{Degree}
-use Rattle.field.specs.Degree.{bits, size, polynomial}
+use Rattle.degree.specs.declared.Degree.{Degree}
+use Rattle.degree.specs.Degree.{bits, size}
+use Rattle.degree.specs.declared.Degree.the-variants.{Four, Six}
+
+-- the polynomial whose root is α, bit i the coefficient of α^i: α^4 + α + 1 and α^6 + α + 1
+abbrev pub polynomial : Degree → ℕ
+polynomial Four = 19
+polynomial Six = 67
 
 -- x times α: shifted by one, and the polynomial, which is 0, added where α^v came up
 unfoldable pub double : Degree → ℕ → ℕ

@@ -1,4 +1,3 @@
-pub mod Degree
 pub mod Field
 pub mod Syndrome
 pub mod Positions

@@ -4,10 +4,10 @@ use mathlib.Core.Bool.{true, false, _&&_}
 use Prim.Native.Nat.{ℕ, zero, suc, _*_}
 use lib.Bits.{bitXor}
 use lib.Dec.{eqb}
-use Rattle.field.specs.declared.degree.Degree.{Degree}
+use Rattle.degree.specs.declared.Degree.{Degree}
 use Rattle.field.specs.declared.locate.Positions.{Positions}
 use Rattle.field.specs.declared.locate.Positions.the-variants.{Zero, One, Two, Unfit}
-use Rattle.field.specs.Degree.{order}
+use Rattle.degree.specs.Degree.{order}
 use Rattle.field.specs.Field.{power}
 
 -- the sum of f over the positions

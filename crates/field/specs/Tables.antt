@@ -1,24 +1,18 @@
 -- What the tables of a degree hold. They are made once and lent; the functions that read them ask for `Tables` by name, and
 -- nothing here has to be believed to read their results.
 use mathlib.Core.Path.{_≡_}
-use mathlib.Core.Bool.{true, false}
 use mathlib.Core.List.{List}
 use Prim.Native.Nat.{ℕ, _+_, _*_, _<_}
-use lib.Dec.{ltb}
 use lib.ListN.{length, getD}
-use Rattle.field.specs.declared.degree.Degree.{Degree}
-use Rattle.field.specs.Degree.{size, order}
+use Rattle.laws.specs.Digits.{sumOver, digits, upTo}
+use Rattle.degree.specs.declared.Degree.{Degree}
+use Rattle.degree.specs.Degree.{size, order}
 use Rattle.field.specs.Field.{power}
-use Rattle.field.specs.Syndrome.{sumOver, digits}
 
 -- the fixed table of powers
 pub record Powers (d : Degree) (ps : List ℕ) : Type 0 where
   pub long : length ps ≡ order d
   pub at : (i : ℕ) → i < order d → getD ps i 0 ≡ power d i
-
--- f at the cells below m, 0 past them
-unfoldable pub upTo : ℕ → (ℕ → ℕ) → ℕ → ℕ
-upTo m f i = elim (ltb i m) [ true ↦ f i | false ↦ 0 ]
 
 -- the check sums of a word whose one 1 is cell i, side by side in one number: s1 in 7 binary digits, s3 in the next 7, the
 -- parity above them

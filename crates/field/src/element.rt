@@ -1,11 +1,11 @@
 // Powers and products of elements, read off the tables.
-use crate::degree::Degree;
 use crate::tables::FieldTables;
 use crate::tables::reduced;
+use degree::Degree;
 ghost use mathlib.Core.Path.{_≡_};
 ghost use mathlib.Core.Logic.{_≢_};
 ghost use Prim.Native.Nat.{_<_};
-ghost use Rattle.field.specs.Degree.{size, order};
+ghost use Rattle.degree.specs.Degree.{size, order};
 ghost use Rattle.field.specs.Field.{power, product};
 ghost use Rattle.field.specs.Tables.{Tables};
 

@@ -1,12 +1,12 @@
 // The error positions that fit two check sums: none or one are read off the tables, two are searched.
-use crate::degree::Degree;
-use crate::degree::order_of;
 use crate::element::log_of;
 use crate::tables::FieldTables;
+use degree::Degree;
+use degree::order_of;
 ghost use mathlib.Core.Path.{_≡_};
 ghost use mathlib.Core.Logic.{_≢_};
 ghost use Prim.Native.Nat.{ℕ, _+_, _*_, _<_};
-ghost use Rattle.field.specs.Degree.{size, order};
+ghost use Rattle.degree.specs.Degree.{size, order};
 ghost use Rattle.field.specs.Positions.{located, atMostOne};
 ghost use Rattle.field.specs.Fitting.{Second};
 ghost use Rattle.field.specs.Tables.{Tables};

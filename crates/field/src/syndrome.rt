@@ -1,8 +1,8 @@
 // The check sums of a packed word.
-use crate::degree::Degree;
 use crate::tables::FieldTables;
+use degree::Degree;
 ghost use mathlib.Core.Path.{_≡_};
-ghost use Rattle.field.specs.Syndrome.{sumOver, digits};
+ghost use Rattle.laws.specs.Digits.{sumOver, digits};
 ghost use Rattle.field.specs.Checks.{IsSyndrome};
 ghost use Rattle.field.specs.Tables.{Tables, weight};
 

@@ -1,10 +1,10 @@
 // The powers of α, and the tables that are made of them: once for a decoding, then lent to the functions that read them.
-use crate::degree::Degree;
-use crate::degree::order_of;
+use degree::Degree;
+use degree::order_of;
 ghost use mathlib.Core.Path.{_≡_};
 ghost use Prim.Native.Nat.{ℕ, _+_, _*_, _<_, _≤_};
 ghost use lib.ListN.{length, getD};
-ghost use Rattle.field.specs.Degree.{order};
+ghost use Rattle.degree.specs.Degree.{order};
 ghost use Rattle.field.specs.Field.{power};
 ghost use Rattle.field.specs.Tables.{Powers, Weights, Logs, Tables};
 ghost use Rattle.field.specs.Building.{Doubled, Block, Summed};

@@ -3,3 +3,5 @@ pub mod Tests
 pub mod Bits
 pub mod Sums
 pub mod Masks
+pub mod DigitSums
+pub mod Linear

@@ -7,14 +7,14 @@ use Prim.Native.Nat.{ℕ, _≤_, _<_}
 use native.Mathlib.Nat.{le-refl}
 use native.Mathlib.Omega.{arith}
 use borrow.Author.Tests.{lt-ltb, le-ltb}
-use Rattle.packed.specs.declared.line.Line.{Line}
+use Rattle.line.specs.declared.packed.Line.{Line}
 use Rattle.line.specs.declared.bounded.Tried.{Tried}
-use Rattle.packed.specs.Cells.{erasures, few, distance}
+use Rattle.line.specs.Cells.{erasures, few, distance}
 use Rattle.line.specs.Bounded.{Answer, orBack}
 use Rattle.line.specs.Decoding.{choice}
-use Rattle.packed.specs.Packed.{Packs, PacksWord}
+use Rattle.line.specs.Packed.{Packs, PacksWord}
 use Rattle.line.specs.Working.{Answers, failed, found}
-use Rattle.packed.proofs.Packing.{as-line, differences-of}
+use Rattle.line.proofs.Packing.{as-line, differences-of}
 
 -- ---- the choice of two answers
 

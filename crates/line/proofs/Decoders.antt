@@ -5,7 +5,7 @@ use mathlib.Core.Path.{_≡_}
 use mathlib.Core.List.{List}
 use Prim.Native.Nat.{ℕ, _<_, _≤_}
 use native.Mathlib.Omega.{arith}
-use Rattle.packed.specs.Cells.{IsWord, distance}
+use Rattle.line.specs.Cells.{IsWord, distance}
 use Rattle.line.specs.Bounded.{Answer, Found, Failed}
 
 pub record Decoder (n : ℕ) (Code : List ℕ → Type 0) (dec : List ℕ → Answer) : Type 0 where

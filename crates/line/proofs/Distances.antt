@@ -15,21 +15,21 @@ use lib.ListN.{length, take, drop, length-drop}
 use lib.Seq.{length-take-le, take-all}
 use borrow.Author.Tests.{eqb-true}
 use Rattle.laws.proofs.Xor.{xor-inj}
-use Rattle.field.specs.declared.degree.Degree.{Degree}
+use Rattle.degree.specs.declared.Degree.{Degree}
 use Rattle.field.specs.declared.locate.Positions.{Positions}
 use Rattle.field.specs.declared.locate.Positions.the-variants.{Zero, One, Two, Unfit}
-use Rattle.field.specs.Degree.{size, order}
+use Rattle.degree.specs.Degree.{size, order}
 use Rattle.field.specs.Field.{power}
 use Rattle.field.specs.Positions.{total}
-use Rattle.field.specs.Syndrome.{sumOver, ones, s1, s3, parity}
+use Rattle.laws.specs.Digits.{sumOver, ones}
+use Rattle.field.specs.Syndrome.{s1, s3, parity}
 use Rattle.field.specs.Fitting.{Within}
 use Rattle.field.proofs.Uniqueness.{unique}
 use Rattle.field.proofs.Primitive.{primitive}
-use Rattle.packed.specs.Cells.{IsWord, distance}
+use Rattle.line.specs.Cells.{IsWord, distance, flip}
 use Rattle.line.specs.Codeword.{Codeword, isCodeword}
 use Rattle.line.specs.Bounded.{Answer, Found, Failed, orElse, firstOf, itself, oneFlipped, twoFlipped, within2, bounded}
-use Rattle.packed.specs.Cells.{flip}
-use Rattle.packed.proofs.CellLaws.{take-bits, word-known, distance-self, distance-parts, distance-length, triangle}
+use Rattle.line.proofs.CellLaws.{take-bits, word-known, distance-self, distance-parts, distance-length, triangle}
 use Rattle.line.proofs.SumLaws.{ones-distance}
 use Rattle.line.proofs.Flips.{flipped, Reached, reached, distance-zero, Between, between, flipped-word, flipped-near, flipped-sum}
 use Rattle.line.proofs.Decoders.{Decoder, found-failed}

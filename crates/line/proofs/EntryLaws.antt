@@ -11,22 +11,22 @@ use lib.ListN.{length, drop, drop-of-length-le}
 use lib.Seq.{drop-cons}
 use borrow.Author.Tests.{leb-true, eqb-true, le-leb, lt-leb}
 use Rattle.laws.proofs.Tests.{and-true}
-use Rattle.field.specs.declared.degree.Degree.{Degree}
-use Rattle.field.specs.declared.degree.Named.{Named}
-use Rattle.field.specs.declared.degree.Named.the-variants.{Known, Unknown}
-use Rattle.field.specs.Degree.{size, named}
+use Rattle.degree.specs.declared.Degree.{Degree}
+use Rattle.degree.specs.declared.Named.{Named}
+use Rattle.degree.specs.declared.Named.the-variants.{Known, Unknown}
+use Rattle.degree.specs.Degree.{size, named}
 use Rattle.line.specs.declared.bounded.Tried.{Tried}
-use Rattle.packed.specs.declared.side.Side.{Side}
-use Rattle.packed.specs.declared.side.Side.the-variants.{One, Two}
+use Rattle.line.specs.declared.side.Side.{Side}
+use Rattle.line.specs.declared.side.Side.the-variants.{One, Two}
 use Rattle.line.specs.declared.refusals.Call.the-variants.{Taken, Refused}
 use Rattle.line.specs.declared.refusals.Refusal.the-variants.{BadDegree}
-use Rattle.packed.specs.Cells.{cell, Cells, few, fillingBit, filled}
+use Rattle.line.specs.Cells.{cell, Cells, few, fillingBit, filled}
 use Rattle.line.specs.Bounded.{Answer, bounded}
 use Rattle.line.specs.Decoding.{choice, decode}
 use Rattle.line.specs.Working.{Answers, failed, found}
 use Rattle.line.specs.Refusals.{atMost, long, shaped, tested, lineCall}
 use Rattle.line.specs.Entries.{isFound}
-use Rattle.packed.proofs.CellLaws.{Bits, filled-known}
+use Rattle.line.proofs.CellLaws.{Bits, filled-known}
 
 -- ---- no cell above a bound, looked at one after the other
 

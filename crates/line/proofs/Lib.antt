@@ -1,3 +1,9 @@
+pub mod CellLaws
+pub mod Words
+pub mod Packing
+pub mod Gathering
+pub mod Spreading
+pub mod RowLaws
 pub mod SumLaws
 pub mod Flips
 pub mod Decoders
@@ -7,3 +13,15 @@ pub mod LineLaw
 pub mod Choosing
 pub mod Tries
 pub mod EntryLaws
+pub mod ClauseLaws
+pub mod CountLaws
+pub mod Examples
+pub mod Reaching
+pub mod Settling
+pub mod Starting
+pub mod Masking
+pub mod OneCodeword
+pub mod Walking
+pub mod MessageLaws
+pub mod LineEncoding
+pub mod Bounds

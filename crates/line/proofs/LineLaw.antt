@@ -12,14 +12,14 @@ use lib.Dec.{ltb}
 use lib.ListN.{length}
 use lib.Seq.{set-getD}
 use borrow.Author.Tests.{ltb-true, ltb-false, lt-ltb}
-use Rattle.field.specs.declared.degree.Degree.{Degree}
-use Rattle.field.specs.Degree.{size}
-use Rattle.packed.specs.declared.side.Side.the-variants.{One, Two}
-use Rattle.packed.specs.Cells.{cell, Cells, IsLine, IsWord, isErased, bit, erasures, few, differs, distance, filledCell, filled}
+use Rattle.degree.specs.declared.Degree.{Degree}
+use Rattle.degree.specs.Degree.{size}
+use Rattle.line.specs.declared.side.Side.the-variants.{One, Two}
+use Rattle.line.specs.Cells.{cell, Cells, IsLine, IsWord, isErased, bit, erasures, few, differs, distance, filledCell, filled}
 use Rattle.line.specs.Codeword.{Codeword}
 use Rattle.line.specs.Bounded.{Answer, Found, Failed, orBack, bounded}
 use Rattle.line.specs.Decoding.{choice, replaced, listTo, decode, decoded, message, messages}
-use Rattle.packed.proofs.CellLaws.{Bits, word-line, differs-le, filled-word, set-cells, erasures-set, distance-set, word-known, distance-self, triangle}
+use Rattle.line.proofs.CellLaws.{Bits, word-line, differs-le, filled-word, set-cells, erasures-set, distance-set, word-known, distance-self, triangle}
 use Rattle.line.proofs.Decoders.{Decoder, found-failed}
 use Rattle.line.proofs.Distances.{bounded-decoder}
 

@@ -11,22 +11,22 @@ use lib.Dec.{eqb}
 use lib.ListN.{take}
 use borrow.Author.Tests.{eqb-true, eqb-false}
 use Rattle.laws.proofs.Xor.{xor-eq}
-use Rattle.field.specs.declared.degree.Degree.{Degree}
+use Rattle.degree.specs.declared.Degree.{Degree}
 use Rattle.field.specs.declared.locate.Positions.{Positions}
 use Rattle.field.specs.declared.locate.Positions.the-variants.{Zero, One, Two, Unfit}
-use Rattle.field.specs.Degree.{size, order}
+use Rattle.degree.specs.Degree.{size, order}
 use Rattle.field.specs.Field.{power}
 use Rattle.field.specs.Positions.{total}
-use Rattle.field.specs.Syndrome.{sumOver, s1, s3, parity}
+use Rattle.laws.specs.Digits.{sumOver}
+use Rattle.field.specs.Syndrome.{s1, s3, parity}
 use Rattle.field.specs.Fitting.{Within, Fits}
 use Rattle.field.proofs.Uniqueness.{unique}
 use Rattle.field.proofs.Primitive.{primitive}
-use Rattle.packed.specs.Cells.{IsWord, distance}
+use Rattle.line.specs.Cells.{IsWord, distance, flip}
 use Rattle.line.specs.Codeword.{Codeword}
 use Rattle.line.specs.Bounded.{Answer, Found, Failed, bounded}
-use Rattle.packed.specs.Cells.{flip}
 use Rattle.line.specs.Working.{mended}
-use Rattle.packed.proofs.CellLaws.{distance-parts}
+use Rattle.line.proofs.CellLaws.{distance-parts}
 use Rattle.line.proofs.SumLaws.{ones-distance, take-flip, take-flip-past}
 use Rattle.line.proofs.Flips.{flipped, many, Reached, reached, within-le, flipped-word, flipped-near, flipped-sum, flipped-ones, take-flipped}
 use Rattle.line.proofs.Distances.{front-word, word-parity, finds-exactly, fails-exactly}

@@ -10,11 +10,10 @@ use lib.Bits.{bitXor, xor-comm}
 use lib.Dec.{eqb}
 use lib.ListN.{length, set, take}
 use lib.Seq.{getD-take, take-set-lt, take-set-le}
-use Rattle.field.specs.Syndrome.{sumOver, ones}
-use Rattle.field.proofs.Sums.{sum-flip as flip-sum}
-use Rattle.packed.specs.Cells.{cell, differs, distance}
-use Rattle.packed.specs.Cells.{flip}
-use Rattle.packed.proofs.CellLaws.{Bits}
+use Rattle.laws.specs.Digits.{sumOver, ones}
+use Rattle.laws.proofs.DigitSums.{sum-flip as flip-sum}
+use Rattle.line.specs.Cells.{cell, differs, distance, flip}
+use Rattle.line.proofs.CellLaws.{Bits}
 
 -- a flip of cell i adds f i to the sum
 pub sum-flip : (f : ℕ → ℕ) (w : List ℕ) (i : ℕ) → Bits w → i < length w

@@ -7,24 +7,25 @@ use mathlib.Core.List.{List}
 use Prim.Native.Nat.{ℕ, _<_}
 use native.Mathlib.Omega.{arith}
 use lib.Dec.{eqb}
-use Rattle.field.specs.declared.degree.Degree.{Degree}
+use Rattle.degree.specs.declared.Degree.{Degree}
 use Rattle.field.specs.declared.locate.Positions.{Positions}
 use Rattle.field.specs.declared.locate.Positions.the-variants.{Zero, One, Two, Unfit}
 use Rattle.field.specs.declared.syndrome.Syndrome.{Syndrome}
-use Rattle.field.specs.Degree.{size, order}
-use Rattle.field.specs.Syndrome.{s1, s3, parity, digits}
+use Rattle.degree.specs.Degree.{size, order}
+use Rattle.field.specs.Syndrome.{s1, s3, parity}
+use Rattle.laws.specs.Digits.{digits}
 use Rattle.field.specs.Checks.{IsSyndrome}
 use Rattle.field.specs.Fitting.{Fits}
 use Rattle.field.specs.Positions.{located}
 use Rattle.field.proofs.Primitive.{primitive}
 use Rattle.field.proofs.Locating.{located-fits, located-none}
 use Rattle.line.specs.declared.bounded.Tried.{Tried}
-use Rattle.packed.specs.Cells.{flip}
+use Rattle.line.specs.Cells.{flip}
 use Rattle.line.specs.Bounded.{bounded}
-use Rattle.packed.specs.Packed.{PacksWord}
+use Rattle.line.specs.Packed.{PacksWord}
 use Rattle.line.specs.Working.{Answers, failed, found, mended, Below, usable}
 use Rattle.line.proofs.Mending.{answer-mends}
-use Rattle.packed.proofs.RowLaws.{word-sums}
+use Rattle.line.proofs.RowLaws.{word-sums}
 
 pub last-below : (d : Degree) → order d < size d
 last-below d = omega (arith, primitive d .more)

@@ -4,8 +4,8 @@ use mathlib.Core.Bool.{Bool, true, false, cond}
 use mathlib.Core.List.{List}
 use Prim.Native.Nat.{ℕ, zero, suc}
 use lib.ListN.{length}
-use Rattle.field.specs.declared.degree.Degree.{Degree}
-use Rattle.packed.specs.Cells.{flip}
+use Rattle.degree.specs.declared.Degree.{Degree}
+use Rattle.line.specs.Cells.{flip}
 use Rattle.line.specs.Codeword.{isCodeword}
 
 pub data Answer : Type 0 where

@@ -4,10 +4,10 @@ use mathlib.Core.Bool.{Bool, _&&_}
 use mathlib.Core.List.{List}
 use Prim.Native.Nat.{ℕ}
 use lib.Dec.{eqb}
-use Rattle.field.specs.declared.degree.Degree.{Degree}
-use Rattle.field.specs.Degree.{size}
+use Rattle.degree.specs.declared.Degree.{Degree}
+use Rattle.degree.specs.Degree.{size}
 use Rattle.field.specs.Syndrome.{s1, s3, parity}
-use Rattle.packed.specs.Cells.{IsWord}
+use Rattle.line.specs.Cells.{IsWord}
 
 pub record Codeword (d : Degree) (c : List ℕ) : Type 0 where
   pub word : IsWord (size d) c

@@ -5,8 +5,8 @@ use mathlib.Core.List.{List, [], _∷_}
 use Prim.Native.Nat.{ℕ, zero, suc}
 use lib.Dec.{ltb}
 use lib.ListN.{length, set}
-use Rattle.packed.specs.declared.side.Side.the-variants.{One, Two}
-use Rattle.packed.specs.Cells.{cell, few, distance, filled}
+use Rattle.line.specs.declared.side.Side.the-variants.{One, Two}
+use Rattle.line.specs.Cells.{cell, few, distance, filled}
 use Rattle.line.specs.Bounded.{Answer, Found, Failed, orBack}
 
 -- if both fail, it fails; if one succeeds, that codeword; if both do, the one with fewer differences at the known cells, at a

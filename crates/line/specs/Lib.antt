@@ -1,6 +1,19 @@
+pub mod Cells
+pub mod Packed
+pub mod Bytes
+pub mod Rows
+pub mod Tables
 pub mod Codeword
 pub mod Bounded
 pub mod Decoding
 pub mod Working
 pub mod Refusals
 pub mod Entries
+pub mod Clauses
+pub mod Fillings
+pub mod SentRows
+pub mod MessageRefusals
+pub mod MessageEntries
+pub mod Encoding
+-- passed on of the field part, for the crate above
+unfoldable pub use Rattle.field.specs.Field.{double, timesPower}

@@ -5,10 +5,10 @@ use mathlib.Core.List.{List, [], _∷_}
 use Prim.Native.Nat.{ℕ}
 use lib.Dec.{eqb, leb}
 use lib.ListN.{length}
-use Rattle.field.specs.declared.degree.Degree.{Degree}
-use Rattle.field.specs.declared.degree.Named.{Named}
-use Rattle.field.specs.declared.degree.Named.the-variants.{Known, Unknown}
-use Rattle.field.specs.Degree.{size, named}
+use Rattle.degree.specs.declared.Degree.{Degree}
+use Rattle.degree.specs.declared.Named.{Named}
+use Rattle.degree.specs.declared.Named.the-variants.{Known, Unknown}
+use Rattle.degree.specs.Degree.{size, named}
 use Rattle.line.specs.declared.refusals.Refusal.{Refusal}
 use Rattle.line.specs.declared.refusals.Refusal.the-variants.{BadDegree, BadIterations, BadLength, BadCell}
 use Rattle.line.specs.declared.refusals.Call.{Call}

@@ -4,15 +4,15 @@ use mathlib.Core.Path.{_≡_}
 use mathlib.Core.Bool.{Bool, true, false}
 use mathlib.Core.List.{List}
 use Prim.Native.Nat.{ℕ, _<_}
-use Rattle.field.specs.declared.degree.Degree.{Degree}
+use Rattle.degree.specs.declared.Degree.{Degree}
 use Rattle.field.specs.declared.locate.Positions.{Positions}
 use Rattle.field.specs.declared.locate.Positions.the-variants.{Zero, One, Two, Unfit}
-use Rattle.field.specs.Degree.{order}
+use Rattle.degree.specs.Degree.{order}
 use Rattle.field.specs.Positions.{atMostOne}
 use Rattle.line.specs.declared.bounded.Tried.{Tried}
 use Rattle.line.specs.Bounded.{Answer, Found, Failed}
-use Rattle.packed.specs.Cells.{flip}
-use Rattle.packed.specs.Packed.{PacksWord}
+use Rattle.line.specs.Cells.{flip}
+use Rattle.line.specs.Packed.{PacksWord}
 
 -- what is found for a word, from the error positions and whether its ones are even in number: the cells at the positions are
 -- flipped, and the last cell too where the ones would stay odd in number, as long as that makes at most two

@@ -1,18 +1,18 @@
 // Is a packed word a codeword?
-use field::degree::Degree;
+use crate::tables::LineTables;
+use degree::Degree;
 use field::syndrome::syndrome_of;
-use field::tables::FieldTables;
 ghost use mathlib.Core.Path.{_≡_};
 ghost use mathlib.Core.List.{List};
 ghost use Prim.Native.Nat.{ℕ};
-ghost use Rattle.field.specs.Degree.{size};
-ghost use Rattle.field.specs.Tables.{Tables};
+ghost use Rattle.degree.specs.Degree.{size};
+ghost use Rattle.line.specs.Tables.{TablesOf};
 ghost use Rattle.line.specs.Codeword.{isCodeword};
-ghost use Rattle.packed.specs.Packed.{PacksWord};
+ghost use Rattle.line.specs.Packed.{PacksWord};
 
 // A codeword has three check sums of 0.
-pub fn is_codeword(d: Degree, word: u64, tables: &FieldTables) -> bool
-    requires { ⌜ Tables d (now tables) ⌝ }
+pub fn is_codeword(d: Degree, word: u64, tables: &LineTables) -> bool
+    requires { ⌜ TablesOf d (now tables) ⌝ }
     ensures { λ r. ⌜ ((ws : List ℕ) → PacksWord (size d) ws word → r ≡ isCodeword d ws) ⌝ }
 {
     let s = syndrome_of(d, word, tables);

@@ -1,21 +1,21 @@
 // Line decoding in the order of Algorithm 1 of source document 000.
 use crate::bounded::Tried;
 use crate::bounded::counted;
-use field::degree::Degree;
-use field::tables::FieldTables;
-use packed::line::Line;
-use packed::line::count_differences;
-use packed::line::count_erasures;
-use packed::line::fill;
+use crate::packed::Line;
+use crate::packed::count_differences;
+use crate::packed::count_erasures;
+use crate::packed::fill;
+use crate::tables::LineTables;
+use degree::Degree;
 ghost use mathlib.Core.Path.{_≡_};
 ghost use mathlib.Core.List.{List};
 ghost use Prim.Native.Nat.{ℕ, _+_, _*_, _<_, _≤_};
-ghost use Rattle.field.specs.Degree.{size};
-ghost use Rattle.field.specs.Tables.{Tables};
-ghost use Rattle.packed.specs.Cells.{few, bit};
+ghost use Rattle.degree.specs.Degree.{size};
+ghost use Rattle.line.specs.Tables.{TablesOf};
+ghost use Rattle.line.specs.Cells.{few, bit};
 ghost use Rattle.line.specs.Bounded.{Answer, bounded, orBack};
 ghost use Rattle.line.specs.Decoding.{choice, decode, decoded};
-ghost use Rattle.packed.specs.Packed.{Packs};
+ghost use Rattle.line.specs.Packed.{Packs};
 ghost use Rattle.line.specs.Working.{Answers};
 
 // A line, and the decodings counted so far.
@@ -50,8 +50,8 @@ pub fn or_back(y: Line, t: Tried) -> Line
 }
 
 // Algorithm 1: count the unsure cells, fill, decode both words, measure and choose.
-pub fn try_packed(d: Degree, y: Line, filling: u64, count: u64, tables: &FieldTables) -> Tried
-    requires { ⌜ (count < 900) × Tables d (now tables) ⌝ }
+pub fn try_packed(d: Degree, y: Line, filling: u64, count: u64, tables: &LineTables) -> Tried
+    requires { ⌜ (count < 900) × TablesOf d (now tables) ⌝ }
     ensures { λ r. ⌜ (r .count ≤ count + 2) × ((ys : List ℕ) → Packs (size d) ys y → Answers (size d) (decode (bounded d) ys filling) r × (r .count ≡ count + 2 * bit (few ys))) ⌝ }
 {
     if count_erasures(y) < 6 {
@@ -74,8 +74,8 @@ pub fn try_packed(d: Degree, y: Line, filling: u64, count: u64, tables: &FieldTa
 }
 
 // Line decoding: what Algorithm 1 found, or the line as it came.
-pub fn decode_packed(d: Degree, y: Line, filling: u64, count: u64, tables: &FieldTables) -> Sent
-    requires { ⌜ (count < 900) × Tables d (now tables) ⌝ }
+pub fn decode_packed(d: Degree, y: Line, filling: u64, count: u64, tables: &LineTables) -> Sent
+    requires { ⌜ (count < 900) × TablesOf d (now tables) ⌝ }
     ensures { λ r. ⌜ (r .count ≤ count + 2) × ((ys : List ℕ) → Packs (size d) ys y → Packs (size d) (decoded (bounded d) ys filling) (r .line) × (r .count ≡ count + 2 * bit (few ys))) ⌝ }
 {
     let t = try_packed(d, y, filling, count, tables);

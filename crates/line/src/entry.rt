@@ -4,23 +4,23 @@ use crate::bounded::Tried;
 use crate::bounded::counted;
 use crate::decoding::or_back;
 use crate::decoding::try_packed;
+use crate::packed::Line;
+use crate::packed::fill;
+use crate::packed::pack;
 use crate::refusals::Call;
 use crate::refusals::Refusal;
 use crate::refusals::line_test;
-use field::degree::Degree;
-use field::tables::make_tables;
-use packed::line::Line;
-use packed::line::fill;
-use packed::line::pack;
-use packed::row::update_row;
+use crate::row::update_row;
+use crate::tables::line_tables;
+use degree::Degree;
 ghost use mathlib.Core.Path.{_≡_};
 ghost use Prim.Native.Nat.{ℕ, _%_};
 ghost use lib.ListN.{length};
-ghost use Rattle.field.specs.Degree.{size};
-ghost use Rattle.packed.specs.Cells.{IsLine, IsWord};
+ghost use Rattle.degree.specs.Degree.{size};
+ghost use Rattle.line.specs.Cells.{IsLine, IsWord};
 ghost use Rattle.line.specs.Bounded.{Answer, bounded};
 ghost use Rattle.line.specs.Decoding.{decode};
-ghost use Rattle.packed.specs.Packed.{Packs};
+ghost use Rattle.line.specs.Packed.{Packs};
 ghost use Rattle.line.specs.Working.{Answers};
 ghost use Rattle.line.specs.Entries.{Answered, BoundedDone, DecodeDone};
 
@@ -49,7 +49,7 @@ fn bounded_taken(d: Degree, word: &mut [u8]) -> LineAnswer
     requires { ⌜ IsWord (size d) (now word) ⌝ }
     ensures { λ r. ⌜ Answered 0 (bounded d (now (word .entry))) (now (word .entry)) (now (word .exit)) r ⌝ }
 {
-    let tables = make_tables(d);
+    let tables = line_tables(d);
     let y = pack(word);
     let words = fill(y, 0); // a full word has no cell to fill, so both are the word
     let t = counted(d, words[0], 0, &tables);
@@ -60,7 +60,7 @@ fn decode_taken(d: Degree, cells: &mut [u8], filling: u64) -> LineAnswer
     requires { ⌜ IsLine (size d) (now cells) ⌝ }
     ensures { λ r. ⌜ Answered 0 (decode (bounded d) (now (cells .entry)) filling) (now (cells .entry)) (now (cells .exit)) r ⌝ }
 {
-    let tables = make_tables(d);
+    let tables = line_tables(d);
     let y = pack(cells);
     let t = try_packed(d, y, filling, 0, &tables);
     answer_in(cells, y, t)

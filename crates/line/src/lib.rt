@@ -1,6 +1,14 @@
-// One line: bounded-distance decoding and error-and-erasure decoding.
+// One line: packed in words, encoded, decoded within a distance and with erasures, and its outgoing messages.
+mod side; // which of the two filled words is meant
+pub mod packed; // a line packed in machine words; no other module looks inside
+pub mod row; // a lent row beside its packed line
+pub mod tables; // the tables that decoding reads, made once and lent
 pub mod codeword; // the test of a word
-pub mod bounded; // bounded-distance decoding, and the one function that counts it
+mod bounded; // bounded-distance decoding, and the one function that counts it
 pub mod decoding; // line decoding, in the order of Algorithm 1
 pub mod refusals; // when a call is turned down
 pub mod entry; // what a caller outside may use
+mod clause; // the clause that settles a cell
+pub mod messages; // the messages of a line
+pub mod sending; // a lent row of an array: packed, sent, written back
+pub mod outgoing; // the same, for the messages of a line

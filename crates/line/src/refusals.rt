@@ -1,8 +1,8 @@
 // When a call is turned down: the numbers of document 01's table, and the tests of a call that lends lines.
-use field::degree::Degree;
-use field::degree::Named;
-use field::degree::degree_of;
-use packed::line::Line;
+use crate::packed::Line;
+use degree::Degree;
+use degree::Named;
+use degree::degree_of;
 ghost use mathlib.Core.Path.{_≡_};
 ghost use Rattle.line.specs.Refusals.{atMost, shaped, lineCall};
 

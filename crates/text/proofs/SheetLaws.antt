@@ -13,25 +13,25 @@ use lib.Dec.{eqb}
 use lib.ListN.{length, take, drop, replicate, length-drop, length-replicate, List·getD-eq-default, List·getD-map}
 use lib.Seq.{take-all}
 use Rattle.laws.specs.Tests.{every}
-use Rattle.field.specs.declared.degree.Degree.{Degree}
-use Rattle.field.specs.declared.degree.Degree.the-variants.{Four, Six}
-use Rattle.field.specs.declared.degree.Named.the-variants.{Known, Unknown}
-use Rattle.field.specs.Degree.{bits, size, named}
-use Rattle.packed.specs.Cells.{cell, Cells, erasures}
+use Rattle.degree.specs.declared.Degree.{Degree}
+use Rattle.degree.specs.declared.Degree.the-variants.{Four, Six}
+use Rattle.degree.specs.declared.Named.the-variants.{Known, Unknown}
+use Rattle.degree.specs.Degree.{bits, size, named}
+use Rattle.line.specs.Cells.{cell, Cells, erasures}
 use Rattle.line.specs.declared.refusals.Refusal.{Refusal}
 use Rattle.line.specs.declared.refusals.Refusal.the-variants.{BadDegree, BadIterations, BadLength, BadCell}
 use Rattle.line.specs.declared.refusals.Call.{Call}
 use Rattle.line.specs.declared.refusals.Call.the-variants.{Taken}
-use Rattle.decoder.specs.declared.report.Report.{Report}
-use Rattle.decoder.specs.declared.entry.DecodeAnswer.{DecodeAnswer}
-use Rattle.decoder.specs.declared.entry.DecodeAnswer.the-variants as answer
-use Rattle.decoder.specs.Entries.{DecodeDone, refusalOf, countOf, erasuresOf, closedOf, cellsFor, countFor, erasuresFor, closedFor}
+use Rattle.array.specs.declared.report.Report.{Report}
+use Rattle.array.specs.declared.entry.DecodeAnswer.{DecodeAnswer}
+use Rattle.array.specs.declared.entry.DecodeAnswer.the-variants as answer
+use Rattle.array.specs.Entries.{DecodeDone, refusalOf, countOf, erasuresOf, closedOf, cellsFor, countFor, erasuresFor, closedFor}
 use Rattle.line.specs.Refusals.{number, refusalIn, atMost}
-use Rattle.decoder.specs.Refusals.{decodeCall}
-use Rattle.decoder.specs.Plain.{plain, plainCount, closed}
-use Rattle.halves.specs.Steps.{IsArray}
-use Rattle.decoder.specs.Steps.{Decoded}
-use Rattle.packed.proofs.ArrayLaws.{length-lines, line-lines, line-at, each-cell}
+use Rattle.array.specs.DecodeRefusals.{decodeCall}
+use Rattle.array.specs.Plain.{plain, plainCount, closed}
+use Rattle.array.specs.Steps.{IsArray}
+use Rattle.array.specs.Runs.{Decoded}
+use Rattle.array.proofs.ArrayLaws.{length-lines, line-lines, line-at, each-cell}
 use Rattle.text.specs.Text.{byte, firstLine, placed, shaped, known, cellOf, cellsOf, zeros, reportText, refusalText, decodedText, sheetText}
 use Rattle.text.proofs.WritingLaws.{cells-even}
 

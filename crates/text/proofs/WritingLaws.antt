@@ -8,8 +8,8 @@ use native.Mathlib.Numerals.{add-one}
 use native.Mathlib.Omega.{arith}
 use lib.ListN.{length, take, drop, getD, set, length-map, length-append, length-drop, take-append-drop, drop-of-length-le}
 use lib.Seq.{length-take-le, set-split, take-at, drop-at, drop-drop, take-suc, take-all}
-use Rattle.packed.specs.Arrays.{line, lines}
-use Rattle.packed.proofs.ArrayLaws.{Even, line-room, length-line, length-lines}
+use Rattle.array.specs.Arrays.{line, lines}
+use Rattle.array.proofs.ArrayLaws.{Even, line-room, length-line, length-lines}
 use Rattle.text.specs.Text.{charOf, lineText}
 use Rattle.text.specs.Writing.{Wrote}
 

@@ -7,14 +7,14 @@ use lib.Dec.{eqb, ltb}
 use lib.ListN.{length, take, drop, getD, replicate}
 use Rattle.laws.specs.Bits.{bit}
 use Rattle.laws.specs.Tests.{every}
-use Rattle.field.specs.declared.degree.Degree.{Degree}
-use Rattle.field.specs.declared.degree.Degree.the-variants.{Four, Six}
-use Rattle.field.specs.declared.degree.Named.{Named}
-use Rattle.field.specs.declared.degree.Named.the-variants.{Known, Unknown}
-use Rattle.field.specs.Degree.{size}
-use Rattle.packed.specs.Cells.{erasures}
-use Rattle.packed.specs.Arrays.{line, lines}
-use Rattle.decoder.specs.Plain.{plain, plainCount, closed}
+use Rattle.degree.specs.declared.Degree.{Degree}
+use Rattle.degree.specs.declared.Degree.the-variants.{Four, Six}
+use Rattle.degree.specs.declared.Named.{Named}
+use Rattle.degree.specs.declared.Named.the-variants.{Known, Unknown}
+use Rattle.degree.specs.Degree.{size}
+use Rattle.line.specs.Cells.{erasures}
+use Rattle.array.specs.Arrays.{line, lines}
+use Rattle.array.specs.Plain.{plain, plainCount, closed}
 
 -- byte p of a text; past its end a text reads 0, which is no character of a sheet
 abbrev pub byte : List ℕ → ℕ → ℕ

@@ -1,8 +1,8 @@
 // What is read: the first line, the tests of the lines after it, and their cells.
 use crate::turning::Turn;
 use crate::turning::put_turned;
-use field::degree::Degree;
-use field::degree::Named;
+use degree::Degree;
+use degree::Named;
 ghost use mathlib.Core.Path.{_≡_};
 ghost use Prim.Native.Nat.{_+_, _*_, _≤_};
 ghost use lib.ListN.{length};

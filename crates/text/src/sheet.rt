@@ -6,13 +6,13 @@ use crate::reading::read_cells;
 use crate::step::decoded;
 use crate::writing::refusal_text;
 use crate::writing::report_text;
-use field::degree::Degree;
-use field::degree::Named;
-use field::degree::size_of;
+use degree::Degree;
+use degree::Named;
+use degree::size_of;
 ghost use mathlib.Core.Path.{_≡_};
 ghost use Prim.Native.Nat.{_+_, _*_, _≤_};
 ghost use lib.ListN.{length};
-ghost use Rattle.field.specs.Degree.{size};
+ghost use Rattle.degree.specs.Degree.{size};
 ghost use Rattle.text.specs.Text.{cellsOf, decodedText, sheetText, printed};
 ghost use Rattle.text.specs.Writing.{Wrote};
 

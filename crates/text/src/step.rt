@@ -1,15 +1,15 @@
 // The decoding of the cells that were read.
-use decoder::entry::DecodeAnswer;
-use decoder::entry::decode;
-use decoder::report::Report;
-use field::degree::Degree;
-use field::degree::size_of;
+use array::entry::DecodeAnswer;
+use array::entry::decode;
+use array::report::Report;
+use degree::Degree;
+use degree::size_of;
 ghost use mathlib.Core.Path.{_≡_};
 ghost use Prim.Native.Nat.{_*_};
 ghost use lib.ListN.{length};
-ghost use Rattle.field.specs.Degree.{bits, size};
-ghost use Rattle.halves.specs.Steps.{IsArray};
-ghost use Rattle.decoder.specs.Steps.{Decoded};
+ghost use Rattle.degree.specs.Degree.{bits, size};
+ghost use Rattle.array.specs.Steps.{IsArray};
+ghost use Rattle.array.specs.Runs.{Decoded};
 ghost use Rattle.text.specs.Text.{zeros};
 
 fn number_of(d: Degree) -> u64

@@ -2,10 +2,10 @@
 -- stands in the source.
 -- Assumes nothing.
 use mathlib.Core.Path.{refl}
-use Rattle.field.specs.declared.degree.Degree.the-variants.{Four, Six}
-use Rattle.field.specs.Field.{double, timesPower}
-use Rattle.field.specs.Syndrome.{sumOver, ones, digits}
-use Rattle.array.specs.Encoding.{sums, checksFor}
+use Rattle.degree.specs.declared.Degree.the-variants.{Four, Six}
+use Rattle.line.specs.{double, timesPower}
+use Rattle.laws.specs.Digits.{sumOver, ones, digits}
+use Rattle.line.specs.Encoding.{sums, checksFor}
 use Rattle.array.proofs.PackedEncoding.{unitWord, units?, units-rule}
 use borrow.Author.Needs.{needs}
 use Rattle.array.proofs.encoding.encode_array.Statement.{statement}

@@ -3,7 +3,7 @@
 use mathlib.Core.Path.{sym, ap₂, _∙_}
 use Prim.Native.Nat.{_*_}
 use native.Mathlib.Omega.{arith}
-use Rattle.array.proofs.Bounds.{size-le, message-le}
+use Rattle.line.proofs.Bounds.{size-le, message-le}
 use Rattle.array.proofs.PackedEncoding.{by-units}
 use borrow.Author.Needs.{needs}
 use Rattle.array.proofs.encoding.encode_by.Statement.{statement}

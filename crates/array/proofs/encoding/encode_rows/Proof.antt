@@ -3,7 +3,7 @@
 use Prim.Native.Nat.{_-_}
 use native.Mathlib.Omega.{arith}
 use lib.ListN.{length}
-use Rattle.array.proofs.Bounds.{square-le}
+use Rattle.line.proofs.Bounds.{square-le}
 use Rattle.array.proofs.Loops.{Encoding, encoding-start, encoding-room, encoding-length, encoding-next}
 use Rattle.array.proofs.encoding.encode_rows.Statement.{statement}
 use Rattle.array.proofs.encoding.encode_rows.Tie as tie

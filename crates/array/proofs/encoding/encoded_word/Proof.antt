@@ -5,7 +5,7 @@ use mathlib.Core.Path.{_≡_, refl}
 use mathlib.Core.Logic.{⊎-elim}
 use native.Mathlib.Omega.{arith}
 use lib.ListN.{length, take}
-use Rattle.field.specs.Syndrome.{sumOver}
+use Rattle.laws.specs.Digits.{sumOver}
 use Rattle.array.specs.Units.{encodedWord}
 use Rattle.array.proofs.Loops.{sum-one, sum-other, sum-all}
 use Rattle.array.proofs.encoding.encoded_word.Statement.{statement}

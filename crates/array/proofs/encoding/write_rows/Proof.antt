@@ -4,10 +4,10 @@ use Prim.Native.Nat.{_-_}
 use mathlib.Core.Path.{ap₂, _∙_}
 use native.Mathlib.Omega.{arith}
 use lib.ListN.{length}
-use Rattle.field.specs.Syndrome.{digits}
+use Rattle.laws.specs.Digits.{digits}
 use Rattle.array.specs.Units.{rowWord}
-use Rattle.array.proofs.Bounds.{square-le}
-use Rattle.field.proofs.Sums.{digits-length}
+use Rattle.line.proofs.Bounds.{square-le}
+use Rattle.laws.proofs.DigitSums.{digits-length}
 use Rattle.array.proofs.Loops.{Lining, lining-start, lining-room, lining-length, lining-next, lining-end}
 use Rattle.array.proofs.encoding.write_rows.Statement.{statement}
 use Rattle.array.proofs.encoding.write_rows.Tie as tie

@@ -5,7 +5,7 @@ use mathlib.Core.Path.{sym, ap₂, _∙_}
 use native.Mathlib.Omega.{arith}
 use borrow.Author.Needs.{needs}
 use Rattle.array.specs.Encoding.{extracted}
-use Rattle.array.proofs.Bounds.{product-le, size-le, room-le}
+use Rattle.line.proofs.Bounds.{product-le, size-le, room-le}
 use Rattle.array.proofs.Loops.{Taking, taking-start, taking-source, taking-fits, taking-part, taking-next, taking-end, lining-room}
 use Rattle.array.proofs.extraction.extract_message.Statement.{statement}
 use Rattle.array.proofs.extraction.extract_message.Tie as tie

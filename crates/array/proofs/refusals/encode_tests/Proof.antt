@@ -1,6 +1,6 @@
 -- `refusals::encode_tests` meets its contract: the tests of what is lent, at the sizes of the degree. Assumes nothing.
 use native.Mathlib.Omega.{arith}
-use Rattle.array.proofs.Bounds.{square-le, size-le, message-le}
+use Rattle.line.proofs.Bounds.{square-le, size-le, message-le}
 use borrow.Author.Needs.{needs}
 use Rattle.array.proofs.refusals.encode_tests.Statement.{statement}
 use Rattle.array.proofs.refusals.encode_tests.Tie as tie

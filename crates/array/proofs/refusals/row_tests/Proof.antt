@@ -1,6 +1,6 @@
 -- `refusals::row_tests` meets its contract: the tests of what is lent, at the size of the degree. Assumes nothing.
 use native.Mathlib.Omega.{arith}
-use Rattle.array.proofs.Bounds.{square-le, size-le}
+use Rattle.line.proofs.Bounds.{square-le, size-le}
 use borrow.Author.Needs.{needs}
 use Rattle.array.proofs.refusals.row_tests.Statement.{statement}
 use Rattle.array.proofs.refusals.row_tests.Tie as tie

@@ -3,8 +3,8 @@
 use mathlib.Core.Path.{sym, _∙_}
 use mathlib.Core.List.{[]}
 use native.Mathlib.Omega.{arith}
-use Rattle.field.specs.Degree.{size}
-use Rattle.packed.specs.Arrays.{line}
+use Rattle.degree.specs.Degree.{size}
+use Rattle.array.specs.Arrays.{line}
 use Rattle.array.specs.Refusals.{rowTests}
 use Rattle.array.proofs.Refusing.{row-taken, row-room, row-part, known-taken, known-refused, unknown-refused}
 use borrow.Author.Needs.{needs}

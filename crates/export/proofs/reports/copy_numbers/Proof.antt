@@ -4,7 +4,7 @@ use Prim.Native.Nat.{_-_}
 use mathlib.Core.Path.{refl, sym, _∙_}
 use native.Mathlib.Omega.{arith}
 use lib.ListN.{length}
-use Rattle.packed.proofs.CopyLaws.{Copying, copying-next, copying-end}
+use Rattle.words.proofs.CopyLaws.{Copying, copying-next, copying-end}
 use Rattle.export.proofs.reports.copy_numbers.Statement.{statement}
 use Rattle.export.proofs.reports.copy_numbers.Tie as tie
 

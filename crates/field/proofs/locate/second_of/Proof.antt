@@ -3,7 +3,7 @@
 use mathlib.Core.Path.{sym, _∙_}
 use native.Mathlib.Omega.{arith}
 use lib.Bits.{xor-lt}
-use Rattle.field.specs.Degree.{bits}
+use Rattle.degree.specs.Degree.{bits}
 use Rattle.field.proofs.Powers.{power-lt}
 use Rattle.field.proofs.Primitive.{primitive}
 use Rattle.field.proofs.Reading.{power-at}

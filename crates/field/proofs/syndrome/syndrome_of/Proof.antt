@@ -3,7 +3,7 @@
 use borrow.Author.Needs.{needs}
 use mathlib.Core.Path.{_∙_}
 use native.Mathlib.Omega.{arith}
-use Rattle.field.specs.Syndrome.{digits}
+use Rattle.laws.specs.Digits.{digits}
 use Rattle.field.proofs.Primitive.{primitive}
 use Rattle.field.proofs.Weights.{s1-lt, s3-lt, weight-sum}
 use Rattle.field.proofs.syndrome.syndrome_of.Statement.{statement}

@@ -5,8 +5,8 @@ use mathlib.Core.Path.{_≡_, refl, sym}
 use Prim.Native.Nat.{ℕ, _≤_, _-_, _*_, _/_, _^_}
 use native.Mathlib.Nat.{div-one}
 use native.Mathlib.Omega.{arith}
-use Rattle.field.specs.declared.degree.Degree.{Degree}
-use Rattle.field.specs.Syndrome.{sumOver, digits}
+use Rattle.degree.specs.declared.Degree.{Degree}
+use Rattle.laws.specs.Digits.{sumOver, digits}
 use Rattle.field.specs.Tables.{Tables, weight}
 use Rattle.field.proofs.Reading.{byte-next, rest-next}
 use Rattle.field.proofs.syndrome.weight_of.Statement.{statement}

@@ -3,7 +3,7 @@
 -- Assumes nothing.
 use borrow.Author.Needs.{needs}
 use mathlib.Core.Path.{refl}
-use Rattle.field.specs.declared.degree.Degree.the-variants.{Four, Six}
+use Rattle.degree.specs.declared.Degree.the-variants.{Four, Six}
 use Rattle.field.specs.Field.{double}
 use Rattle.field.proofs.PowerTable.{powers-rule}
 use Rattle.field.proofs.Filling.{zeros-at}

@@ -5,7 +5,7 @@ use Prim.Native.Nat.{_≤_, _<_, _-_}
 use native.Mathlib.Omega.{arith}
 use borrow.Author.Needs.{needs}
 use lib.ListN.{length, getD, length-set}
-use Rattle.field.specs.Degree.{order}
+use Rattle.degree.specs.Degree.{order}
 use Rattle.field.proofs.Primitive.{primitive}
 use Rattle.field.proofs.Filling.{LogsTo, logs-start, logs-next, logs-done, powers-small}
 use Rattle.field.proofs.tables.put_logs.Statement.{statement}

@@ -5,7 +5,7 @@ use Prim.Native.Nat.{_*_, _≤_, _<_, _-_}
 use native.Mathlib.Omega.{arith}
 use borrow.Author.Needs.{needs}
 use lib.ListN.{length, getD, length-set}
-use Rattle.field.specs.Degree as degree
+use Rattle.degree.specs.Degree as degree
 use Rattle.field.specs.Field.{power}
 use Rattle.field.proofs.Primitive.{primitive}
 use Rattle.field.proofs.Filling.{WeightsTo, weights-start, weights-next, weights-done, cube-next, powers-small}

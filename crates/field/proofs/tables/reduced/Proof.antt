@@ -4,7 +4,7 @@ use borrow.Author.Needs.{needs}
 use mathlib.Core.Path.{_≡_, sym, ap, _∙_}
 use Prim.Native.Nat.{ℕ, _+_, _-_}
 use native.Mathlib.Omega.{arith}
-use Rattle.field.specs.Degree.{order}
+use Rattle.degree.specs.Degree.{order}
 use Rattle.field.specs.Field.{power}
 use Rattle.field.proofs.Powers.{power-period}
 use Rattle.field.proofs.tables.reduced.Statement.{statement}

@@ -2,7 +2,7 @@
 -- Assumes nothing.
 use borrow.Author.Needs.{needs}
 use lib.Dec.{eqb}
-use Rattle.field.specs.Syndrome.{digits}
+use Rattle.laws.specs.Digits.{digits}
 use Rattle.field.proofs.Weights.{s1-lt, s3-lt}
 use Rattle.line.proofs.Tries.{usable-below, tried-bounded}
 use Rattle.line.proofs.bounded.counted.Statement.{statement}

@@ -4,7 +4,7 @@ use mathlib.Core.Path.{_≡_, refl, subst}
 use native.Mathlib.Omega.{arith}
 use lib.Dec.{eqb}
 use borrow.Author.Needs.{needs}
-use Rattle.field.specs.Degree.{size}
+use Rattle.degree.specs.Degree.{size}
 use Rattle.field.proofs.Primitive.{primitive}
 use Rattle.line.specs.Working.{Below, failed}
 use Rattle.line.proofs.Tries.{last-below, zero-mended, one-mended, two-mended}

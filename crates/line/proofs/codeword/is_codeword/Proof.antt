@@ -2,7 +2,7 @@
 -- Assumes nothing.
 use borrow.Author.Needs.{needs}
 use Rattle.line.specs.Codeword.{isCodeword}
-use Rattle.packed.proofs.RowLaws.{word-sums}
+use Rattle.line.proofs.RowLaws.{word-sums}
 use Rattle.line.proofs.codeword.is_codeword.Statement.{statement}
 use Rattle.line.proofs.codeword.is_codeword.Tie as tie
 

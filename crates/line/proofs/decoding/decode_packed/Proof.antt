@@ -1,7 +1,7 @@
 -- `line::decoding::decode_packed` meets its contract: what was found, or the line as it came.
 -- Assumes nothing.
 use borrow.Author.Needs.{needs}
-use Rattle.field.specs.Degree.{size}
+use Rattle.degree.specs.Degree.{size}
 use Rattle.line.proofs.decoding.decode_packed.Statement.{statement}
 use Rattle.line.proofs.decoding.decode_packed.Tie as tie
 

@@ -2,7 +2,7 @@
 -- Assumes nothing.
 use borrow.Author.Needs.{needs}
 use Rattle.line.proofs.Choosing.{found-back, failed-back}
-use Rattle.packed.proofs.Packing.{line-is}
+use Rattle.line.proofs.Packing.{line-is}
 use Rattle.line.proofs.decoding.or_back.Statement.{statement}
 use Rattle.line.proofs.decoding.or_back.Tie as tie
 

@@ -1,15 +1,15 @@
 -- `line::entry::bounded_taken` meets its contract: the word is packed, tried, and made to hold what was found.
 -- Assumes nothing.
 use borrow.Author.Needs.{needs}
-use Rattle.packed.specs.declared.side.Side.the-variants.{One}
-use Rattle.packed.proofs.CellLaws.{word-line}
-use Rattle.packed.proofs.RowLaws.{packable, sized}
+use Rattle.line.specs.declared.side.Side.the-variants.{One}
+use Rattle.line.proofs.CellLaws.{word-line}
+use Rattle.line.proofs.RowLaws.{packable, sized}
 use Rattle.line.proofs.EntryLaws.{filled-full}
 use Rattle.line.proofs.entry.bounded_taken.Statement.{statement}
 use Rattle.line.proofs.entry.bounded_taken.Tie as tie
 
-make-tables-requires : tie.Need-make-tables-requires
-make-tables-requires c κs = search needs
+line-tables-requires : tie.Need-line-tables-requires
+line-tables-requires c κs = search needs
 
 pack-requires : tie.Need-pack-requires
 pack-requires c κs = let s = c .before .before .before in packable (s .args .d) (word-line (s .pre))
@@ -46,7 +46,7 @@ pub bounded-taken-spec : {M : Type 1} → statement M
 bounded-taken-spec =
     tie.close
     (tie.spec
-    make-tables-requires
+    line-tables-requires
     pack-requires
     fill-requires
     array-read-counted

@@ -1,12 +1,12 @@
 -- `line::entry::decode_taken` meets its contract: the line is packed, tried, and made to hold what was found.
 -- Assumes nothing.
 use borrow.Author.Needs.{needs}
-use Rattle.packed.proofs.RowLaws.{packable, sized}
+use Rattle.line.proofs.RowLaws.{packable, sized}
 use Rattle.line.proofs.entry.decode_taken.Statement.{statement}
 use Rattle.line.proofs.entry.decode_taken.Tie as tie
 
-make-tables-requires : tie.Need-make-tables-requires
-make-tables-requires c κs = search needs
+line-tables-requires : tie.Need-line-tables-requires
+line-tables-requires c κs = search needs
 
 pack-requires : tie.Need-pack-requires
 pack-requires c κs = let s = c .before .before .before in packable (s .args .d) (s .pre)
@@ -35,7 +35,7 @@ pub decode-taken-spec : {M : Type 1} → statement M
 decode-taken-spec =
     tie.close
     (tie.spec
-    make-tables-requires
+    line-tables-requires
     pack-requires
     try-packed-requires
     answer-in-requires

@@ -3,7 +3,7 @@
 use Prim.Native.Nat.{_+_, _-_}
 use mathlib.Core.Path.{refl}
 use native.Mathlib.Omega.{arith}
-use Rattle.packed.specs.Arrays.{line}
+use Rattle.array.specs.Arrays.{line}
 use Rattle.text.specs.Text.{lineText, arrayText}
 use Rattle.text.proofs.WritingLaws.{Lined, lined-start, lined-part, lined-source, lined-part-length, lined-room, lined-next, lined-end, wrote-length, lines-even}
 use Rattle.text.proofs.writing.put_lines.Statement.{statement}

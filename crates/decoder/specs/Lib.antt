@@ -1,4 +1,0 @@
-pub mod Plain
-pub mod Refusals
-pub mod Entries
-pub mod Steps

@@ -1,5 +1,0 @@
-pub mod Clauses
-pub mod Working
-pub mod Rows
-pub mod Refusals
-pub mod Entries

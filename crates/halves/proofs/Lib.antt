@@ -1,2 +1,0 @@
-pub mod PackedLaws
-pub mod HalfLaws

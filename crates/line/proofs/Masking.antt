@@ -1,0 +1,102 @@
+-- Masks of a line: the messages of the cells that they leave out are the cells of the line that the messages start from.
+-- Assumes nothing.
+use mathlib.Core.Path.{_≡_, refl, sym, ap, ap₂, _∙_}
+use mathlib.Core.Bool.{Bool, true, false, cond, _&&_, not}
+use mathlib.Core.Logic.{_≢_}
+use mathlib.Core.List.{List}
+use Prim.Native.Nat.{ℕ, _+_, _*_, _/_, _%_, _^_, _≤_, _<_}
+use native.Mathlib.Omega.{arith}
+use lib.Bits.{bitAnd, bitOr, bitXor, or-lt, xor-lt, and-lt}
+use lib.Dec.{eqb}
+use lib.Pow.{pow-pos}
+use borrow.Author.Tests.{eq-eqb, ne-eqb}
+use Rattle.laws.specs.Bits.{bit, bitAt}
+use Rattle.laws.proofs.Xor.{bit-ind, xor-eq}
+use Rattle.laws.proofs.Bits.{bit-at-lt, or-at, xor-at, and-at}
+use Rattle.degree.specs.declared.Degree.{Degree}
+use Rattle.degree.specs.Degree.{size}
+use Rattle.line.specs.declared.clause.Clause.the-variants.{Equal, Channel}
+use Rattle.line.specs.declared.packed.Line.{Line}
+use Rattle.line.specs.Cells.{cell, isOne, isErased, erasures, few}
+use Rattle.line.specs.Bounded.{bounded}
+use Rattle.line.specs.Decoding.{decoded, message}
+use Rattle.line.specs.Clauses.{cost, clause, settled}
+use Rattle.line.specs.Packed.{packBy, Packs}
+use Rattle.line.specs.Fillings.{Masks, start}
+use Rattle.line.proofs.Words.{packBy-lt, packBy-bit}
+use Rattle.line.proofs.Packing.{cell-of-line}
+use Rattle.line.proofs.Choosing.{is-few, is-many}
+use Rattle.line.proofs.ClauseLaws.{clause-settles}
+use Rattle.line.proofs.Reaching.{equal-clause, many-clause}
+
+-- ---- which cells a mask leaves out
+
+-- two pairs of bits
+none-differ : {a b c e : ℕ} → a < 2 → b < 2 → c < 2 → e < 2 → bitOr (bitXor a b) (bitXor c e) ≡ 0 → (a ≡ b) × (c ≡ e)
+none-differ {a} {b} {c} {e} ha hb hc he =
+    bit-ind (λ (a : ℕ). bitOr (bitXor a b) (bitXor c e) ≡ 0 → (a ≡ b) × (c ≡ e))
+    (bit-ind (λ (b : ℕ). bitOr (bitXor 0 b) (bitXor c e) ≡ 0 → (0 ≡ b) × (c ≡ e)) (λ z. (refl, xor-eq z)) (λ z. absurd (more hc he z)) hb)
+    (bit-ind (λ (b : ℕ). bitOr (bitXor 1 b) (bitXor c e) ≡ 0 → (1 ≡ b) × (c ≡ e)) (λ z. absurd (more hc he z)) (λ z. (refl, xor-eq z)) hb) ha
+  where
+    more : {c e : ℕ} → c < 2 → e < 2 → bitOr 1 (bitXor c e) ≡ 0 → ⊥
+    more {c} {e} hc he =
+        bit-ind (λ (c : ℕ). bitOr 1 (bitXor c e) ≡ 0 → ⊥)
+        (bit-ind (λ (e : ℕ). bitOr 1 (bitXor 0 e) ≡ 0 → ⊥) (λ z. omega arith) (λ z. omega arith) he)
+        (bit-ind (λ (e : ℕ). bitOr 1 (bitXor 1 e) ≡ 0 → ⊥) (λ z. omega arith) (λ z. omega arith) he) hc
+
+not-fresh : (a c : Bool) → bitXor (bit a) (bitAnd (bit a) (bit c)) ≡ 0 → (a && not c) ≡ false
+not-fresh true true e = refl
+not-fresh true false e = let z : ⊥ = omega arith in elim z [ ]
+not-fresh false c e = refl
+
+ones-lt : {n : ℕ} {cs : List ℕ} {l : Line} → Packs n cs l → l .ones < 2 ^ n
+ones-lt {n} {cs} p = rw (p .ones, ← p .cells .long) (packBy-lt isOne cs)
+
+erased-lt : {n : ℕ} {cs : List ℕ} {l : Line} → Packs n cs l → l .erased < 2 ^ n
+erased-lt {n} {cs} p = rw (p .erased, ← p .cells .long) (packBy-lt isErased cs)
+
+module _ (d : Degree) (ys rs : List ℕ) (f : ℕ) {y r : Line} (p : Packs (size d) ys y) (q : Packs (size d) rs r) {e : ℕ} (h : e ≡ erasures ys) where
+  -- cells without a bit are equal
+  cells-equal : (k : ℕ) → bitAt (bitOr (bitXor (y .ones) (r .ones)) (bitXor (y .erased) (r .erased))) k ≡ 0 → cell ys k ≡ cell rs k
+  cells-equal k z =
+      let s = none-differ (bit-at-lt (y .ones) k) (bit-at-lt (r .ones) k) (bit-at-lt (y .erased) k) (bit-at-lt (r .erased) k)
+      (sym (or-at (bitXor (y .ones) (r .ones)) (bitXor (y .erased) (r .erased)) k ∙ ap₂ bitOr (xor-at (y .ones) (r .ones) k) (xor-at (y .erased) (r .erased) k)) ∙ z) in
+      sym (cell-of-line k p) ∙ ap₂ (λ (a b : ℕ). a + 2 * b) (s .0) (s .1) ∙ cell-of-line k q
+
+  -- the message of a cell that is settled by the clause equal, or with 6 or more erasures by the clause channel
+  pub outside : (k : ℕ) → k < size d → cond (few ys) Equal Channel ≡ clause (bounded d) ys rs f k
+      → (cell (start d ys rs f) k ≡ message (bounded d) ys rs f k) × (cost (clause (bounded d) ys rs f k) ≡ 0)
+  unfolding start settled
+  outside k hk e = rw (clause-settles d ys rs f k (p .cells) (q .cells) hk, ← e) (go (few ys))
+    where
+      go : (t : Bool) → (cell (cond t (decoded (bounded d) ys f) rs) k ≡ settled (bounded d) ys rs f k (cond t Equal Channel)) × (cost (cond t Equal Channel) ≡ 0)
+      go true = (refl, refl)
+      go false = (refl, refl)
+
+  pub few-mask : e < 6 → Masks d ys rs f (bitOr (bitXor (y .ones) (r .ones)) (bitXor (y .erased) (r .erased)))
+  few-mask l =
+      record {
+        small = or-lt (size d) _ _ (xor-lt (size d) _ _ (ones-lt p) (ones-lt q)) (xor-lt (size d) _ _ (erased-lt p) (erased-lt q));
+        rest = λ k hk z. outside k hk (rw (is-few ys e h l) (equal-clause d ys rs f k (p .cells) (q .cells) hk (is-few ys e h l) (cells-equal k z)));
+      }
+
+  known-there : (k : ℕ) → bitAt (bitXor (y .erased) (bitAnd (y .erased) (r .erased))) k ≡ 0 → (eqb (cell ys k) 2 && not (eqb (cell rs k) 2)) ≡ false
+  known-there k z =
+      not-fresh (isErased (cell ys k)) (isErased (cell rs k))
+      (sym (xor-at (y .erased) (bitAnd (y .erased) (r .erased)) k ∙ ap₂ bitXor (at p) (and-at (y .erased) (r .erased) k ∙ ap₂ bitAnd (at p) (at q))) ∙ z)
+    where
+      at : {cs : List ℕ} {l : Line} → Packs (size d) cs l → bitAt (l .erased) k ≡ bit (isErased (cell cs k))
+      at {cs} p = rw (p .erased) (packBy-bit isErased refl cs k)
+
+  channel-rest : 6 ≤ e → (k : ℕ) → k < size d → (eqb (erasures ys) 6 && (eqb (cell ys k) 2 && not (eqb (cell rs k) 2))) ≡ false → cond (few ys) Equal Channel ≡ clause (bounded d) ys rs f k
+  channel-rest l k hk z = rw (is-many ys e h l) (many-clause d ys rs f k (p .cells) (q .cells) hk (is-many ys e h l) false z)
+
+  pub six-mask : 6 ≤ e → e ≡ 6 → Masks d ys rs f (bitXor (y .erased) (bitAnd (y .erased) (r .erased)))
+  six-mask l s =
+      record {
+        small = xor-lt (size d) _ _ (erased-lt p) (and-lt (size d) _ _ (erased-lt p) (erased-lt q));
+        rest = λ k hk z. outside k hk (channel-rest l k hk (rw (eq-eqb (erasures ys) 6 (sym h ∙ s)) (known-there k z)));
+      }
+
+  pub more-mask : 6 ≤ e → e ≢ 6 → Masks d ys rs f 0
+  more-mask l s = record { small = pow-pos (size d); rest = λ k hk z. outside k hk (channel-rest l k hk (rw (ne-eqb (erasures ys) 6 (λ g. s (h ∙ g))))) }

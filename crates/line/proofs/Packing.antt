@@ -1,0 +1,110 @@
+-- Packed lines: what the functions on them lean on.
+-- Assumes nothing.
+use mathlib.Core.Path.{_≡_, refl, sym, ap, ap₂, _∙_}
+use mathlib.Core.Bool.{Bool, true, false}
+use mathlib.Core.List.{List}
+use Prim.Native.Nat.{ℕ, suc, _+_, _-_, _*_, _/_, _%_, _^_, _≤_, _<_}
+use native.Mathlib.Omega.{arith}
+use lib.Bits.{bitAnd, bitOr, bitXor, xor-self, and-le-l}
+use lib.Count.{ones}
+use lib.ListN.{length, set}
+use lib.Pow.{shl-exact}
+use Rattle.laws.specs.Bits.{bit, xorb}
+use Rattle.laws.proofs.Xor.{bit-ind}
+use Rattle.laws.proofs.Bits.{bit-one}
+use Rattle.line.specs.declared.side.Side.the-variants.{One, Two}
+use Rattle.line.specs.declared.packed.Line.{Line}
+use Rattle.line.specs.Cells.{cell, isOne, isErased, erasures, distance, filled, flip}
+use Rattle.line.specs.Packed.{packBy, Packs, PacksWord}
+use Rattle.line.proofs.CellLaws.{set-cells, filled-word}
+use Rattle.line.proofs.Words.{packBy-lt, packBy-bit, packBy-set, cell-ind, cell-of, filled-first, filled-second, no-erased, ones-erased, ones-differing}
+
+-- cell k of a packed line
+pub cell-of-line : {n : ℕ} {cs : List ℕ} {l : Line} (k : ℕ) → Packs n cs l → l .ones / 2 ^ k % 2 + 2 * (l .erased / 2 ^ k % 2) ≡ cell cs k
+cell-of-line {cs} k p =
+    rw (p .ones, p .erased, packBy-bit isOne refl cs k, packBy-bit isErased refl cs k) (cell-of (p .cells .small k))
+
+-- cell k of a packed word
+pub bit-of-word : {n : ℕ} {ws : List ℕ} {w : ℕ} (k : ℕ) → PacksWord n ws w → w / 2 ^ k % 2 ≡ cell ws k
+bit-of-word {ws} k p = rw (p .ones, packBy-bit isOne refl ws k) (bit-one (p .cells .small k))
+
+xor-bit : (a b : Bool) → bitXor (bit a) (bit b) ≡ bit (xorb a b)
+xor-bit true true = refl
+xor-bit true false = refl
+xor-bit false true = refl
+xor-bit false false = refl
+
+put-by : (p : ℕ → Bool) → p 0 ≡ false → (cs : List ℕ) (w k c x : ℕ) → w ≡ packBy p cs → k < length cs → x ≡ bit (p c)
+    → bitXor w (bitXor (w / 2 ^ k % 2) x * 2 ^ k) ≡ packBy p (set cs k c)
+put-by p z cs w k c x e h g = rw (e, g, packBy-bit p z cs k, xor-bit (p (cell cs k)) (p c)) (packBy-set p cs k c h)
+
+-- a cell put in a packed line
+pub put-cell : {n : ℕ} {cs : List ℕ} {l : Line} (k c : ℕ) → Packs n cs l → k < n → c < 3
+    → (o e : ℕ) → o ≡ bitXor (l .ones) (bitXor (l .ones / 2 ^ k % 2) (c % 2) * 2 ^ k) → e ≡ bitXor (l .erased) (bitXor (l .erased / 2 ^ k % 2) (c / 2 % 2) * 2 ^ k)
+    → Packs n (set cs k c) (record { ones = o; erased = e })
+put-cell {cs} {l} k c p h g o e eo ee =
+    let m : k < length cs = rw (p .cells .long) h in record {
+      room = p .room;
+      cells = set-cells k c g (p .cells);
+      ones = eo ∙ put-by isOne refl cs (l .ones) k c (c % 2) (p .ones) m (cell-ind (λ (c : ℕ). c % 2 ≡ bit (isOne c)) refl refl refl g);
+      erased = ee ∙ put-by isErased refl cs (l .erased) k c (c / 2 % 2) (p .erased) m (cell-ind (λ (c : ℕ). c / 2 % 2 ≡ bit (isErased c)) refl refl refl g);
+    }
+
+pub filled-one : {n : ℕ} {cs : List ℕ} {l : Line} (f : ℕ) → Packs n cs l → PacksWord n (filled One cs f) (bitOr (l .ones) (bitAnd (l .erased) f))
+filled-one {cs} f p = record { room = p .room; cells = filled-word One f (p .cells); ones = rw (p .ones, p .erased) (filled-first cs f (p .cells .small)) }
+
+pub filled-two : {n : ℕ} {cs : List ℕ} {l : Line} (f : ℕ) → Packs n cs l → PacksWord n (filled Two cs f) (bitXor (bitOr (l .ones) (bitAnd (l .erased) f)) (l .erased))
+filled-two {cs} f p =
+    record { room = p .room; cells = filled-word Two f (p .cells); ones = rw (p .ones, p .erased, filled-first cs f (p .cells .small)) (filled-second cs f (p .cells .small)) }
+
+-- a word is a line with no erasure
+pub as-line : {n : ℕ} {ws : List ℕ} {w : ℕ} → PacksWord n ws w → Packs n ws (record { ones = w; erased = 0 })
+as-line {ws} p =
+    record {
+      room = p .room;
+      cells = record { long = p .cells .long; small = λ i. let h : cell ws i < 2 = p .cells .small i in omega arith };
+      ones = p .ones;
+      erased = sym (no-erased ws (p .cells .small));
+    }
+
+pub erasures-of : {n : ℕ} {cs : List ℕ} {l : Line} → Packs n cs l → ones (l .erased) ≡ erasures cs
+erasures-of {cs} p = rw (p .erased) (ones-erased cs)
+
+-- the ones of an xor under the known mask
+pub differences-of : {n : ℕ} {cs ws : List ℕ} {l : Line} {w : ℕ} → Packs n cs l → PacksWord n ws w
+    → ones (bitAnd (bitXor w (l .ones)) (2 ^ 64 - 1 - l .erased)) ≡ distance cs ws
+differences-of {cs} {ws} p q =
+    rw (p .ones, p .erased, q .ones) (ones-differing 64 cs ws (q .cells .long ∙ sym (p .cells .long)) (rw (p .cells .long) (p .room)) (p .cells .small) (q .cells .small))
+
+-- a line whose erased word is 0 has no erasure
+pub no-erasures : {n : ℕ} {cs : List ℕ} {l : Line} → Packs n cs l → l .erased ≡ 0 → 0 ≡ erasures cs
+unfolding ones
+no-erasures p e = rw e at (erasures-of p)
+
+-- a line that holds the ones of a word differs from it in no known cell
+pub no-differences : {n : ℕ} {cs ws : List ℕ} {l : Line} {w : ℕ} → Packs n cs l → PacksWord n ws w → w ≡ l .ones → 0 ≡ distance cs ws
+unfolding ones
+no-differences {l} {w} p q e =
+    let known = 2 ^ 64 - 1 - l .erased in
+    let none : bitXor w (l .ones) ≡ 0 = rw (← e) (xor-self w) in
+    let left : bitAnd 0 known ≡ 0 = omega (arith, and-le-l 0 known) in
+    let zero : ones (bitAnd (bitXor w (l .ones)) known) ≡ 0 = rw (none, left) refl in
+    sym zero ∙ differences-of p q
+
+-- a line by its two words
+pub line-is : {l : Line} {o e : ℕ} → (l .ones ≡ o) × (l .erased ≡ e) → l ≡ record { ones = o; erased = e }
+line-is {l} h = rw (← h .0, ← h .1)
+
+-- a cell of a packed word flipped
+pub flip-packed : {n : ℕ} {ws : List ℕ} {w : ℕ} (k : ℕ) → PacksWord n ws w → k < n → PacksWord n (flip k ws) (bitXor w (1 * 2 ^ k % 2 ^ 64))
+unfolding flip
+flip-packed {n} {ws} {w} k p h =
+    let m : k < length ws = rw (p .cells .long) h in
+    let one : 1 * 2 ^ k % 2 ^ 64 ≡ bit true * 2 ^ k = shl-exact 1 k 64 (omega arith) (omega (arith, p .room)) in
+    let turned : xorb (isOne (cell ws k)) (isOne (1 - cell ws k)) ≡ true =
+    bit-ind (λ (c : ℕ). xorb (isOne c) (isOne (1 - c)) ≡ true) refl refl (p .cells .small k) in
+    record {
+      room = p .room;
+      cells = set-cells k (1 - cell ws k) (omega arith) (p .cells);
+      ones = ap₂ bitXor (p .ones) (one ∙ ap (λ (b : Bool). bit b * 2 ^ k) (sym turned)) ∙ packBy-set isOne ws k (1 - cell ws k) m;
+    }

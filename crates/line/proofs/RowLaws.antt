@@ -1,0 +1,87 @@
+-- What a packed word and a packed line tell of a row: the digits of the word are the cells, and a line packs one list only.
+-- Assumes nothing.
+use mathlib.Core.Path.{_≡_, refl, sym, ap, ap₂, _∙_, subst}
+use mathlib.Core.List.{List, [], _∷_}
+use Prim.Native.Nat.{ℕ, zero, suc, _-_, _*_, _%_, _≤_, _<_}
+use native.Mathlib.Nat.{le-refl, le-of-suc-le-suc, not-suc-le-zero}
+use native.Mathlib.Omega.{arith}
+use lib.Bits.{bitOr, bitXor}
+use lib.ListN.{length, take}
+use lib.Seq.{ext-getD}
+use Rattle.laws.proofs.Bits.{half-bit, low-bit, bit-one, or-first, or-second}
+use Rattle.laws.proofs.Xor.{xor-eq}
+use Rattle.degree.specs.declared.Degree.{Degree}
+use Rattle.degree.specs.declared.Degree.the-variants.{Four, Six}
+use Rattle.field.specs.declared.syndrome.Syndrome.{Syndrome}
+use Rattle.degree.specs.Degree.{size, order}
+use Rattle.field.specs.Field.{power}
+use Rattle.laws.specs.Digits.{sumOver, ones, digits}
+use Rattle.field.specs.Checks.{IsSyndrome}
+use Rattle.line.specs.declared.packed.Line.{Line}
+use Rattle.line.specs.Cells.{cell, IsLine, isOne}
+use Rattle.line.specs.Packed.{packBy, Packs, PacksWord}
+use Rattle.line.proofs.CellLaws.{Bits}
+use Rattle.line.proofs.Packing.{cell-of-line}
+
+-- ---- a word
+
+-- the first digits of a packed word are the first cells
+pub packed-digits : (ws : List ℕ) (m k : ℕ) → Bits ws → m ≤ length ws → length ws ≤ k → take m (digits k (packBy isOne ws)) ≡ take m ws
+unfolding digits packBy
+packed-digits ws zero k h l g = refl
+packed-digits [] (suc m) k h l g = absurd (not-suc-le-zero l)
+packed-digits (w ∷ ws) (suc m) zero h l g = absurd (not-suc-le-zero g)
+packed-digits (w ∷ ws) (suc m) (suc k) h l g =
+    ap₂ (λ (x : ℕ) (xs : List ℕ). x ∷ xs) (low-bit (packBy isOne ws) (isOne w) ∙ bit-one (h 0))
+    (ap (λ (x : ℕ). take m (digits k x)) (half-bit (packBy isOne ws) (isOne w)) ∙ packed-digits ws m k (λ i. h (suc i)) (le-of-suc-le-suc l) (le-of-suc-le-suc g))
+
+-- so for a word of n cells
+pub word-digits : {n : ℕ} {ws : List ℕ} {w : ℕ} (m : ℕ) → m ≤ n → PacksWord n ws w → take m (digits 64 w) ≡ take m ws
+word-digits {ws} m h p =
+    rw (p .ones) (packed-digits ws m 64 (p .cells .small) (rw (p .cells .long) h) (rw (p .cells .long) (p .room)))
+
+-- the check sums of a packed word are those of its cells
+pub word-sums : {d : Degree} {ws : List ℕ} {w : ℕ} {s : Syndrome} → PacksWord (size d) ws w → IsSyndrome d (digits 64 w) s → IsSyndrome d ws s
+word-sums {d} p q =
+    let front = word-digits (order d) (omega arith) p in
+    record {
+      s1 = q .s1 ∙ ap (sumOver (λ i. power d i)) front;
+      s3 = q .s3 ∙ ap (sumOver (λ i. power d (3 * i))) front;
+      parity = q .parity ∙ ap (λ (l : List ℕ). ones l % 2) (word-digits (size d) (le-refl (size d)) p);
+    }
+
+-- ---- n
+
+-- a line has room in a machine word
+pub size-room : (d : Degree) → size d ≤ 64
+size-room Four = omega arith
+size-room Six = omega arith
+
+-- a line is made of whole parts of eight cells
+pub size-eights : (d : Degree) → size d % 8 ≡ 0
+size-eights Four = refl
+size-eights Six = refl
+
+-- what packing a row asks for
+pub packable : (d : Degree) {l : List ℕ} → IsLine (size d) l → (length l ≤ 64) × (length l % 8 ≡ 0) × ((i : ℕ) → cell l i < 3)
+packable d h = (rw (h .long) (size-room d), rw (h .long) (size-eights d), h .small)
+
+-- ---- a line
+
+pub sized : {n m : ℕ} {cs : List ℕ} {l : Line} → n ≡ m → Packs n cs l → Packs m cs l
+sized {cs} {l} e p = subst (λ (k : ℕ). Packs k cs l) e p
+
+-- a packed line says what its cells are
+pub packs-one : {n : ℕ} {cs ds : List ℕ} {l : Line} → Packs n cs l → Packs n ds l → cs ≡ ds
+packs-one {cs} {ds} p q =
+    ext-getD 0 cs ds (p .cells .long ∙ sym (q .cells .long)) (λ k h. sym (cell-of-line k p) ∙ cell-of-line k q)
+
+-- two lines with no differing cell pack the same list
+pub none-differing : {n : ℕ} {cs ds : List ℕ} {a b : Line} {r : ℕ} → r ≡ bitOr (bitXor (a .ones) (b .ones)) (bitXor (a .erased) (b .erased)) → r ≡ 0
+    → Packs n cs a → Packs n ds b → cs ≡ ds
+none-differing {a} {b} e z p q =
+    let none = sym e ∙ z in
+    let x = bitXor (a .ones) (b .ones) in
+    let y = bitXor (a .erased) (b .erased) in
+    packs-one p
+    (record { room = q .room; cells = q .cells; ones = xor-eq (or-first x y none) ∙ q .ones; erased = xor-eq (or-second x y none) ∙ q .erased })

@@ -1,0 +1,120 @@
+-- A cell settled by its clause.
+-- Assumes nothing.
+use mathlib.Core.Path.{_≡_, refl, sym, ap, _∙_, subst}
+use mathlib.Core.Bool.{Bool, true, false, cond, _&&_, not, true≢false, and-false}
+use mathlib.Core.Logic.{_≢_, _⊎_, inl, inr}
+use mathlib.Core.List.{List}
+use Prim.Native.Nat.{ℕ, _+_, _*_, _<_}
+use native.Mathlib.Omega.{arith}
+use lib.Dec.{eqb}
+use lib.ListN.{set}
+use borrow.Author.Tests.{lt-ltb, eqb-true, eqb-false}
+use Rattle.laws.specs.Bits.{bit}
+use Rattle.degree.specs.declared.Degree.{Degree}
+use Rattle.degree.specs.Degree.{size}
+use Rattle.line.specs.declared.side.Side.{Side}
+use Rattle.line.specs.declared.side.Side.the-variants.{One, Two}
+use Rattle.line.specs.declared.clause.Clause.{Clause}
+use Rattle.line.specs.declared.clause.Clause.the-variants.{Equal, Crowded, Both, Neither, Agreeing, Unchanged, Open, Afresh, Channel}
+use Rattle.line.specs.declared.packed.Line.{Line}
+use Rattle.line.specs.declared.bounded.Tried.{Tried}
+use Rattle.line.specs.declared.clause.Base.{Base}
+use Rattle.line.specs.Cells.{cell, isErased, erasures, few, filled}
+use Rattle.line.specs.Bounded.{Answer, Found, Failed, bounded}
+use Rattle.line.specs.Decoding.{replaced, decoded, message}
+use Rattle.line.specs.Clauses.{ifNear, reach, cost, clause, settled}
+use Rattle.line.specs.Packed.{Packs, PacksWord}
+use Rattle.line.specs.Working.{Answers, failed, found}
+use Rattle.line.specs.Fillings.{Based, triedOf, start}
+use Rattle.line.proofs.CellLaws.{erased-or-known}
+use Rattle.line.proofs.Distances.{bounded-decoder}
+use Rattle.line.proofs.ClauseLaws.{changed, clause-settles}
+use Rattle.line.proofs.CountLaws.{few-cost}
+use Rattle.line.proofs.Reaching.{many-clause}
+
+-- ---- an answer, where it is in reach
+
+near-answer : {n : ℕ} {p : Answer} {t : Tried} (v : Tried) (x : Bool) → Answers n p t → v .found ≡ (t .found && x) → v .word ≡ t .word → Answers n (cond x p Failed) v
+near-answer v true (failed e) g h = failed (g ∙ rw e)
+near-answer v true (found {c} e w) g h = found {c = c} {t = v} (g ∙ rw e) (subst (PacksWord _ c) (sym h) w)
+near-answer {t} v false a g h = failed (g ∙ and-false (t .found))
+
+pub near-at : (d : Degree) (ys rs : List ℕ) (f k : ℕ) (s : Side) (t v : Tried) (x : Bool) → Answers (size d) (bounded d (filled s ys f)) t → x ≡ reach (bounded d) ys rs f k s
+    → v .found ≡ (t .found && x) → v .word ≡ t .word → Answers (size d) (ifNear (bounded d (filled s ys f)) (filled s (replaced ys rs k) f)) v
+unfolding reach
+near-at d ys rs f k s t v x a e g h = rw (← e) (near-answer v x a g h)
+
+-- ---- the clauses
+
+-- the clauses for fewer than 6 erasures coming in
+abbrev halving : Clause → Bool
+halving Equal = true
+halving Crowded = true
+halving Both = true
+halving Neither = true
+halving (Agreeing s) = true
+halving (Unchanged s) = true
+halving (Open s) = true
+halving Afresh = false
+halving Channel = false
+
+module _ {d : Degree} {ys rs : List ℕ} {f k : ℕ} {y r : Line} {b : Base} (p : Packs (size d) ys y) (q : Packs (size d) rs r) (hk : k < size d) (B : Based d ys rs f b) where
+  pub few-of : {c : Clause} → c ≡ clause (bounded d) ys rs f k → halving c ≡ true → few ys ≡ true
+  few-of {c} e h = go (few ys) refl
+    where
+      none : (t : Bool) → halving (cond t Afresh Channel) ≡ false
+      none true = refl
+      none false = refl
+
+      go : (t : Bool) → few ys ≡ t → t ≡ true
+      go true g = refl
+      go false g =
+          let t = eqb (erasures ys) 6 && (eqb (cell ys k) 2 && not (eqb (cell rs k) 2)) in
+          absurd (true≢false (sym h ∙ ap halving (e ∙ sym (many-clause d ys rs f k (p .cells) (q .cells) hk g t refl)) ∙ none t))
+
+  pub equal-cell : {v : ℕ} → Equal ≡ clause (bounded d) ys rs f k → v ≡ cell (start d ys rs f) k → v ≡ settled (bounded d) ys rs f k Equal
+  unfolding settled start
+  equal-cell e g = rw (few-of e refl) at g
+
+  pub tried-at : {c : Clause} → c ≡ clause (bounded d) ys rs f k → halving c ≡ true → (s : Side) {t : Tried} → t ≡ triedOf b s → Answers (size d) (bounded d (filled s ys f)) t
+  tried-at e h s g = subst (Answers (size d) (bounded d (filled s ys f))) (sym g) (go s)
+    where
+      go : (s : Side) → Answers (size d) (bounded d (filled s ys f)) (triedOf b s)
+      go One = B .one (few-of e h) .tried
+      go Two = B .two (few-of e h) .tried
+
+  -- a cell that is decoded afresh has 5 erasures in its line
+  pub fresh-few : Afresh ≡ clause (bounded d) ys rs f k → few (replaced ys rs k) ≡ true
+  fresh-few e = go (few ys) refl
+    where
+      two : cost (clause (bounded d) ys rs f k) ≡ 2
+      two = sym (ap cost e)
+
+      five : erasures ys ≡ 6 → ((cell ys k ≡ 2) × (bit (isErased (cell ys k)) ≡ 1)) ⊎ ((cell ys k ≢ 2) × (bit (isErased (cell ys k)) ≡ 0))
+          → ((cell rs k ≡ 2) × (bit (isErased (cell rs k)) ≡ 1)) ⊎ ((cell rs k ≢ 2) × (bit (isErased (cell rs k)) ≡ 0))
+          → (x : Bool) → eqb (cell ys k) 2 ≡ x → (z : Bool) → eqb (cell rs k) 2 ≡ z → (x && not z) ≡ true → few (replaced ys rs k) ≡ true
+      five u (inl a) (inr c) x ex z ez h = lt-ltb (erasures (replaced ys rs k)) 6 (omega (arith, changed (bounded-decoder d) ys rs f k (p .cells) (q .cells) hk))
+      five u (inl a) (inl c) x ex true ez h = absurd (true≢false (sym h ∙ and-false x))
+      five u (inl a) (inl c) x ex false ez h = absurd (eqb-false (cell rs k) 2 ez (c .0))
+      five u (inr a) c true ex z ez h = absurd (a .0 (eqb-true (cell ys k) 2 ex))
+      five u (inr a) c false ex z ez h = absurd (true≢false (sym h))
+
+      test : (x : Bool) → eqb (erasures ys) 6 ≡ x → (z : Bool) → (eqb (cell ys k) 2 && not (eqb (cell rs k) 2)) ≡ z → cost (cond (x && z) Afresh Channel) ≡ 2 → few (replaced ys rs k) ≡ true
+      test true ex true ez h = five (eqb-true (erasures ys) 6 ex) (erased-or-known (cell ys k)) (erased-or-known (cell rs k)) _ refl _ refl ez
+      test true ex false ez h = absurd (omega arith)
+      test false ex z ez h = absurd (omega arith)
+
+      go : (t : Bool) → few ys ≡ t → few (replaced ys rs k) ≡ true
+      go true g = absurd (omega (arith, few-cost (bounded d) ys rs f g k, two))
+      go false g = test _ refl _ refl (ap cost (many-clause d ys rs f k (p .cells) (q .cells) hk g _ refl) ∙ two)
+
+  pub fresh-count : (m c : ℕ) → Afresh ≡ clause (bounded d) ys rs f k → m ≡ c + 2 * bit (few (replaced ys rs k)) → m ≡ c + 2
+  fresh-count m c e h = rw (fresh-few e) at h
+
+  pub settled-message : {c : Clause} {v m : ℕ} (i : ℕ) → c ≡ clause (bounded d) ys rs f k → (v ≡ settled (bounded d) ys rs f k c) × (m ≡ i + cost c)
+      → (v ≡ message (bounded d) ys rs f k) × (m ≡ i + cost (clause (bounded d) ys rs f k))
+  settled-message i e h = rw (clause-settles d ys rs f k (p .cells) (q .cells) hk, ← e) h
+
+pub replaced-line : {n k x : ℕ} {ys rs : List ℕ} {y r z : Line} → Packs n ys y → Packs n rs r → k < n → x ≡ cell rs k → (k < n → x < 3 → Packs n (set ys k x) z) → Packs n (replaced ys rs k) z
+replaced-line {n} {k} {x} {ys} {rs} {z} p q hk e h =
+    subst (λ (c : ℕ). Packs n (set ys k c) z) e (h hk (let s : cell rs k < 3 = q .cells .small k in omega arith))

@@ -1,0 +1,23 @@
+-- `line::clause::half_of` meets its contract: the distance is counted once, from the filled word to what it gave.
+-- Assumes nothing.
+use borrow.Author.Needs.{needs}
+use Rattle.degree.specs.Degree.{size}
+use Rattle.line.specs.Cells.{filled}
+use Rattle.line.proofs.Packing.{as-line, line-is}
+use Rattle.line.proofs.Reaching.{word-of}
+use Rattle.line.proofs.clause.half_of.Statement.{statement}
+use Rattle.line.proofs.clause.half_of.Tie as tie
+
+new-requires : tie.Need-new-requires
+new-requires c κs = search needs
+
+count-differences-requires : tie.Need-count-differences-requires
+count-differences-requires c κs = search needs
+
+returns : tie.Need-returns
+returns c =
+    λ ys rs f s p q l.
+    record { before = p; channel = q; tried = l; far = λ e h. c .count-differences .ensures (size (c .before .before .args .d)) (filled s ys f) e (rw (line-is (c .before .new .ensures)) (as-line p)) (word-of l e h) }
+
+pub half-of-spec : {M : Type 1} → statement M
+half-of-spec = tie.close (tie.spec new-requires count-differences-requires returns)

@@ -1,0 +1,28 @@
+-- `line::row::update_row` meets its contract: a row that is not written holds the new line already, since a line packs one list only.
+-- Assumes nothing.
+use mathlib.Core.Path.{refl, sym}
+use borrow.Author.Needs.{needs}
+use Rattle.line.proofs.RowLaws.{sized, none-differing}
+use Rattle.line.proofs.row.update_row.Statement.{statement}
+use Rattle.line.proofs.row.update_row.Tie as tie
+
+differing-requires : tie.Need-differing-requires
+differing-requires c κs = search needs
+
+unpack-requires : tie.Need-unpack-requires
+unpack-requires c κs = search needs
+
+same-length : tie.Need-same-length
+same-length c = search needs
+
+returns : tie.Need-returns
+returns c =
+    let u = c .before .before .unpack .ensures in
+    record { long = u .0; cells = λ n cs p q. u .1 cs (sized (sym (p .cells .long)) q) }
+
+returns-2 : tie.Need-returns-2
+returns-2 c = record { long = refl; cells = λ n cs p q. none-differing (c .before .differing .ensures) (c .if1 .left) p q }
+
+pub update-row-spec : {M : Type 1} → statement M
+update-row-spec =
+    tie.close (tie.spec differing-requires unpack-requires same-length returns returns-2)

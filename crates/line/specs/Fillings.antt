@@ -1,0 +1,68 @@
+-- What the parts of a line's work stand for: fillings, and what they say at a cell. The contracts between the functions of this
+-- crate are put in these words; nothing here has to be believed to read a contract of an entry.
+use mathlib.Core.Path.{_≡_}
+use mathlib.Core.Bool.{Bool, true, false, cond, not, _&&_, _||_}
+use mathlib.Core.List.{List}
+use Prim.Native.Nat.{ℕ, _^_, _<_}
+use lib.Dec.{eqb, ltb}
+use Rattle.laws.specs.Bits.{bitAt}
+use Rattle.degree.specs.declared.Degree.{Degree}
+use Rattle.degree.specs.Degree.{size}
+use Rattle.line.specs.declared.side.Side.{Side}
+use Rattle.line.specs.declared.side.Side.the-variants as side
+use Rattle.line.specs.declared.bounded.Tried.{Tried}
+use Rattle.line.specs.declared.clause.Half.{Half}
+use Rattle.line.specs.declared.clause.Seen.{Seen}
+use Rattle.line.specs.declared.clause.Base.{Base}
+use Rattle.line.specs.Cells.{cell, erasures, few, distance, filled}
+use Rattle.line.specs.Bounded.{Found, bounded}
+use Rattle.line.specs.Decoding.{decoded, message}
+use Rattle.line.specs.Clauses.{reach, same, answerCell, after, cost, clause}
+use Rattle.line.specs.Packed.{Packs, PacksWord}
+use Rattle.line.specs.Working.{Answers}
+
+module _ (d : Degree) (ys rs : List ℕ) (f : ℕ) where
+  -- a filling of the incoming line, and of the channel line by the same bits; what it gave, and how far that is
+  pub record Halves (s : Side) (h : Half) : Type 0 where
+    pub before : PacksWord (size d) (filled s ys f) (h .before)
+    pub channel : PacksWord (size d) (filled s rs f) (h .channel)
+    pub tried : Answers (size d) (bounded d (filled s ys f)) (h .tried)
+    pub far : (c : List ℕ) → bounded d (filled s ys f) ≡ Found c → h .far ≡ distance (filled s ys f) c
+
+  -- what a filling says at cell k
+  pub record Sees (k : ℕ) (s : Side) (v : Seen) : Type 0 where
+    pub reach : v .reach ≡ reach (bounded d) ys rs f k s
+    pub same : v .same ≡ same (bounded d) ys rs f k s
+    pub value : v .value ≡ answerCell (bounded d) ys rs f k (bounded d (filled s ys f))
+    pub bit : v .bit ≡ cell (after (bounded d) ys rs f k s) k
+
+  -- the line that the messages start from
+  unfoldable pub start : List ℕ
+  start = cond (few ys) (decoded (bounded d) ys f) rs
+
+  -- what is known of a line before its cells are settled; of its fillings only with fewer than 6 erasures
+  pub record Based (b : Base) : Type 0 where
+    pub erased : b .erased ≡ erasures ys
+    pub own : Packs (size d) start (b .own)
+    pub one : few ys ≡ true → Halves side.One (b .one)
+    pub two : few ys ≡ true → Halves side.Two (b .two)
+    pub count : b .count ≡ cond (few ys) 2 0
+
+  -- the messages of the cells whose bit is not set in a mask are the cells of that line, and cost nothing
+  pub record Masks (m : ℕ) : Type 0 where
+    pub small : m < 2 ^ size d
+    pub rest : (k : ℕ) → k < size d → bitAt m k ≡ 0 → (cell start k ≡ message (bounded d) ys rs f k) × (cost (clause (bounded d) ys rs f k) ≡ 0)
+
+-- a codeword that was found stays in reach at cell k: it lies nearer than 2, or the filled bit is unchanged, or the change does
+-- not lead away from it
+abbrev pub stays : Half → ℕ → Bool
+stays h k = ltb (h .far) 2 || (eqb (bitAt (h .before) k) (bitAt (h .channel) k) || not (eqb (bitAt (h .tried .word) k) (bitAt (h .before) k)))
+
+-- both fillings decoded to one codeword
+abbrev pub oneCodeword : Base → Bool
+oneCodeword b = (b .one .tried .found && b .two .tried .found) && eqb (b .one .tried .word) (b .two .tried .word)
+
+-- the answer of a filling
+abbrev pub triedOf : Base → Side → Tried
+triedOf b side.One = b .one .tried
+triedOf b side.Two = b .two .tried

@@ -1,0 +1,2 @@
+pub mod SwapLaws
+pub mod CopyLaws
