@@ -20,8 +20,9 @@
  * a filling word is for cell i; bits from n up are not read. Any words are taken: zeros, or drawn at random as in the published
  * algorithm.
  *
- * Refusals. Each function returns 0, or the number of the first test that fails, in this order. It never aborts. A refused call
- * changes nothing that it was lent, but for the report.
+ * Refusals. Each function returns 0, or the number of the first test that applies, in this order. It never aborts. A refused call
+ * changes nothing that it was lent, but for the report. A compiler that knows how warns where the number is not looked at;
+ * pugdrel_refusal_text says it in words.
  *
  * Reports. Where a function has more to say than the number, it writes it to `report`, whose length is part of the contract as
  * that of any slice: another length is PUGDREL_BAD_LENGTH, and then the report is not written. A report of the right length is
@@ -37,6 +38,15 @@
 
 #include <stddef.h>
 #include <stdint.h>
+
+/* Put before a function whose result must be looked at. */
+#if defined(__cplusplus) && __cplusplus >= 201703L
+#define PUGDREL_NODISCARD [[nodiscard]]
+#elif defined(__GNUC__)
+#define PUGDREL_NODISCARD __attribute__((warn_unused_result))
+#else
+#define PUGDREL_NODISCARD
+#endif
 
 #ifdef __cplusplus
 extern "C" {
@@ -61,6 +71,19 @@ enum pugdrel_refusal {
     PUGDREL_BAD_CELL = 4        /* a cell above 2, or above 1 in a message or a word */
 };
 
+/* A refusal number in words, for a log. The text is constant: nothing is to be freed. */
+static inline const char *pugdrel_refusal_text(uint64_t number)
+{
+    switch (number) {
+    case PUGDREL_OK: return "taken";
+    case PUGDREL_BAD_DEGREE: return "degree not 4 or 6";
+    case PUGDREL_BAD_ITERATIONS: return "iterations 0 or above 20";
+    case PUGDREL_BAD_LENGTH: return "a slice not of the exact length, or a row number of n or more";
+    case PUGDREL_BAD_CELL: return "a cell above 2, or above 1 in a message or a word";
+    default: return "no refusal number of this library";
+    }
+}
+
 /* ---- Arrays. */
 
 /* The report of pugdrel_decode. */
@@ -71,19 +94,24 @@ enum pugdrel_decode_report {
     PUGDREL_DECODE_REPORT = 3
 };
 
-/* Decodes `received` into `cells`, in `iterations` iterations of all rows and then all columns.
+/* Decodes `received` into `cells`, in `iterations` iterations of all rows and then all columns. Declare the received array const:
+ * both are bytes of one length, and a call that has them in each other's place compiles where neither is const.
  * received: n * n cells. filling: PUGDREL_FILLING_WORDS(iterations, n) words, in order of halves and then of lines.
  * cells: n * n, written only; what they held is not tested. report: 3 numbers.
  * Where in every received row twice the wrong cells plus the unsure ones is below 6, against an array that was sent, the cells
- * are that array's and closed is 1. Refusals: 1, 2, 3, 4. */
+ * are that array's and closed is 1. Closed alone does not tell that: it says that the array is one of the code's by its columns,
+ * not that it is the one that was sent. Refusals: 1, 2, 3, 4. */
+PUGDREL_NODISCARD
 uint64_t pugdrel_decode(uint64_t degree, uint64_t iterations, const uint8_t *received, size_t received_len,
                         const uint64_t *filling, size_t filling_len, uint8_t *cells, size_t cells_len, uint64_t *report,
                         size_t report_len);
 
 /* Encodes a message of k * k bits into the n * n cells of its array. Refusals: 1, 3, 4. */
+PUGDREL_NODISCARD
 uint64_t pugdrel_encode(uint64_t degree, const uint8_t *message, size_t message_len, uint8_t *cells, size_t cells_len);
 
 /* Copies the k * k message cells out of an array of n * n cells, as they are, unsure ones too. Refusals: 1, 3, 4. */
+PUGDREL_NODISCARD
 uint64_t pugdrel_extract(uint64_t degree, const uint8_t *cells, size_t cells_len, uint8_t *message, size_t message_len);
 
 /* The report of pugdrel_row. */
@@ -95,6 +123,7 @@ enum pugdrel_row_report {
 
 /* Looks up row `index` of an array of n * n cells: its cells are cells[start] to cells[start + length - 1].
  * report: 2 numbers. Refusals: 1, 3 (also for an index of n or more), 4. */
+PUGDREL_NODISCARD
 uint64_t pugdrel_row(uint64_t degree, const uint8_t *cells, size_t cells_len, size_t index, uint64_t *report,
                      size_t report_len);
 
@@ -102,15 +131,18 @@ uint64_t pugdrel_row(uint64_t degree, const uint8_t *cells, size_t cells_len, si
 
 /* Bounded-distance decoding, in place: the one codeword within 2 of a full word. report[0] is 1 where there is one; else it is 0
  * and the word stays as it is. Refusals: 1, 3, 4. */
+PUGDREL_NODISCARD
 uint64_t pugdrel_bounded_distance(uint64_t degree, uint8_t *word, size_t word_len, uint64_t *report, size_t report_len);
 
 /* Decoding of a line with unsure cells, in place. report[0] is 1 where it succeeds; else it is 0 and the line stays as it is.
  * Refusals: 1, 3, 4. */
+PUGDREL_NODISCARD
 uint64_t pugdrel_decode_line(uint64_t degree, uint8_t *cells, size_t cells_len, uint64_t filling, uint64_t *report,
                              size_t report_len);
 
 /* The extrinsic messages of a line: what the other cells say about each cell of the incoming line, given the channel's line.
  * incoming, channel: n cells. messages: n cells, written only. report[0] is the count of decodings. Refusals: 1, 3, 4. */
+PUGDREL_NODISCARD
 uint64_t pugdrel_messages(uint64_t degree, const uint8_t *incoming, size_t incoming_len, const uint8_t *channel,
                           size_t channel_len, uint64_t filling, uint8_t *messages, size_t messages_len, uint64_t *report,
                           size_t report_len);
@@ -124,6 +156,7 @@ uint64_t pugdrel_messages(uint64_t degree, const uint8_t *incoming, size_t incom
  * iteration with filling words of zero. The text is written to the front of `output` (the bytes behind it stay), and report[0] is
  * its length. Its first line is the refusal number of the input, the count, the unsure cells and closed; the decoded lines follow
  * unless the input is refused. The call itself returns 0, or 3 where `output` or `report` is not of its length. */
+PUGDREL_NODISCARD
 uint64_t pugdrel_sheet(const uint8_t *input, size_t input_len, uint8_t *output, size_t output_len, uint64_t *report,
                        size_t report_len);
 

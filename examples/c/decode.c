@@ -112,6 +112,15 @@ static void refusals(void)
     check(pugdrel_extract(4, received, array, taken_out, 50) == PUGDREL_BAD_LENGTH, "a message of 50 cells");
 }
 
+/* Every number has words of its own. */
+static void words_of_refusals(void)
+{
+    uint64_t a, b;
+    for (a = 0; a <= PUGDREL_BAD_CELL + 1; a++)
+        for (b = 0; b < a; b++)
+            check(strcmp(pugdrel_refusal_text(a), pugdrel_refusal_text(b)) != 0, "two refusals have different words");
+}
+
 /* ---- Rows. */
 
 static void rows(void)
@@ -221,6 +230,7 @@ int main(void)
     round_trip(4, PUGDREL_N4, PUGDREL_K4);
     round_trip(6, PUGDREL_N6, PUGDREL_K6);
     refusals();
+    words_of_refusals();
     rows();
     lines();
     sheet();
