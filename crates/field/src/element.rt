@@ -32,13 +32,13 @@ pub fn product_of(d: Degree, x: u16, y: u16, tables: &FieldTables) -> u16
     ensures { λ r. ⌜ r ≡ product d x y ⌝ }
 {
     if x == 0 {
-        return 0;
+        0
+    } else if y == 0 {
+        0
+    } else {
+        let i = log_of(d, x, tables);
+        let j = log_of(d, y, tables);
+        let k = reduced(d, i + j);
+        power_of(d, k, tables)
     }
-    if y == 0 {
-        return 0;
-    }
-    let i = log_of(d, x, tables);
-    let j = log_of(d, y, tables);
-    let k = reduced(d, i + j);
-    power_of(d, k, tables)
 }

@@ -26,15 +26,18 @@ pub fn locate_single(d: Degree, s1: u16, s3: u16, tables: &FieldTables) -> Posit
 {
     if s1 == 0 {
         if s3 == 0 {
-            return Positions::Zero;
+            Positions::Zero
+        } else {
+            Positions::Unfit
         }
-        return Positions::Unfit;
+    } else {
+        let i = log_of(d, s1, tables);
+        if tables[i] / 128 % 128 == s3 {
+            Positions::One(i)
+        } else {
+            Positions::Unfit
+        }
     }
-    let i = log_of(d, s1, tables);
-    if tables[i] / 128 % 128 == s3 {
-        return Positions::One(i);
-    }
-    Positions::Unfit
 }
 
 // The other of two positions that fit, one of them i, or 65536 where there is none. Its power is what is left of s1; both sums
@@ -47,13 +50,11 @@ fn second_of(d: Degree, s1: u16, sums: u16, i: usize, tables: &FieldTables) -> u
     let w = tables[i];
     let rest = s1 ^ (w % 128);
     if rest == 0 {
-        return 65536;
+        65536
+    } else {
+        let j = log_of(d, rest, tables);
+        if w ^ tables[j] == sums { j } else { 65536 }
     }
-    let j = log_of(d, rest, tables);
-    if w ^ tables[j] == sums {
-        return j;
-    }
-    65536
 }
 
 // Two positions that fit, where no fewer do: a search over the lower one.
@@ -62,16 +63,18 @@ fn locate_pair(d: Degree, s1: u16, s3: u16, tables: &FieldTables) -> Positions
     ensures { λ r. ⌜ r ≡ located d s1 s3 ⌝ }
 {
     let sums = s1 + 128 * s3;
-    let order = order_of(d);
+    let last = order_of(d) - 1;
     let mut i = 0;
-    while i < order {
-        let j = second_of(d, s1, sums, i, tables);
-        if j < 65536 {
-            return Positions::Two(i, j);
-        }
+    let mut j = second_of(d, s1, sums, i, tables);
+    while (j >= 65536) & (i < last) {
         i += 1;
+        j = second_of(d, s1, sums, i, tables);
     }
-    Positions::Unfit
+    if j < 65536 {
+        Positions::Two(i, j)
+    } else {
+        Positions::Unfit
+    }
 }
 
 // The at most two positions whose powers add up to s1 and whose cubes add up to s3. No two powers add up to 0.
@@ -81,12 +84,13 @@ pub fn locate(d: Degree, s1: u16, s3: u16, tables: &FieldTables) -> Positions
 {
     let single = locate_single(d, s1, s3, tables);
     if s1 == 0 {
-        return single;
-    }
-    match single {
-        Positions::Zero => single,
-        Positions::One(_) => single,
-        Positions::Two(_, _) => single,
-        Positions::Unfit => locate_pair(d, s1, s3, tables),
+        single
+    } else {
+        match single {
+            Positions::Zero => single,
+            Positions::One(_) => single,
+            Positions::Two(_, _) => single,
+            Positions::Unfit => locate_pair(d, s1, s3, tables),
+        }
     }
 }

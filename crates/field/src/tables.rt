@@ -87,10 +87,7 @@ pub fn reduced(d: Degree, k: usize) -> usize
     ensures { λ r. ⌜ (r < order d) × (power d r ≡ power d k) ⌝ }
 {
     let order = order_of(d);
-    if k < order {
-        return k;
-    }
-    k - order
+    if k < order { k } else { k - order }
 }
 
 // Entry i, for each cell i of a word: its weight. The last cell counts for the parity alone.

@@ -42,11 +42,11 @@ pub product-of-spec : {M : Type 1} → statement M
 product-of-spec =
     tie.close
     (tie.spec
-    returns
-    returns-2
     log-of-requires
     log-of-requires-2
     add-reduced
     reduced-requires
     power-of-requires
+    returns
+    returns-2
     returns-3)

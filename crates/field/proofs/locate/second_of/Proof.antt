@@ -52,4 +52,4 @@ returns-3 c =
 pub second-of-spec : {M : Type 1} → statement M
 second-of-spec =
     tie.close
-    (tie.spec mul-w element-copy-out-w returns log-of-requires mul-if2 element-copy-out-if2 returns-2 returns-3)
+    (tie.spec mul-w element-copy-out-w log-of-requires mul-if2 element-copy-out-if2 returns returns-2 returns-3)
