@@ -1,6 +1,5 @@
 pub mod Cells
 pub mod Packed
-pub mod Bytes
 pub mod Rows
 pub mod Tables
 pub mod Codeword

@@ -1,18 +1,19 @@
 // A line packed in machine words. Only this module knows how.
 use crate::side::Side;
 use degree::Degree;
+use words::bytes::eight;
+use words::bytes::gather;
+use words::bytes::put_eight;
+use words::bytes::spread;
 ghost use mathlib.Core.Path.{_≡_};
 ghost use mathlib.Core.Bool.{true};
 ghost use mathlib.Core.List.{List};
 ghost use Prim.Native.Nat.{ℕ, _+_, _-_, _*_, _<_, _≤_, _/_, _%_, _^_};
 ghost use lib.Bits.{bitAnd, bitOr, bitXor};
-ghost use lib.ListN.{length, set, take, drop};
-ghost use lib.Seq.{sets};
+ghost use lib.ListN.{length, set};
 ghost use Rattle.degree.specs.Degree.{bits, size, order};
-ghost use Rattle.laws.specs.Digits.{digits};
 ghost use Rattle.line.specs.Cells.{Cells, cell, erasures, distance, filled, isOne, isErased, flip};
 ghost use Rattle.line.specs.Packed.{packBy, Packs, PacksWord, sideWord};
-ghost use Rattle.line.specs.Bytes.{joined, gathered, bytesOf, cellsOf};
 
 // Bit i of `ones` says that cell i is 1, bit i of `erased` that it is unsure.
 pub struct Line {
@@ -167,42 +168,6 @@ pub fn known_only_in(a: Line, b: Line) -> u64
 
 // ---- from cells in bytes to a packed line, eight cells at a time
 
-fn wide(x: u8) -> u64
-    ensures { λ r. ⌜ (r ≡ x) × (r < 256) ⌝ }
-{
-    x as u64
-}
-
-// Four cells as one number, the first in the lowest byte.
-fn four(cells: &[u8], at: usize) -> u64
-    requires { ⌜ at + 4 ≤ length (now cells) ⌝ }
-    ensures { λ r. ⌜ (r ≡ joined (take 4 (drop at (now (cells .entry))))) × (r < 4294967296) ⌝ }
-{
-    wide(cells[at])
-        + wide(cells[at + 1]) * 0x100
-        + wide(cells[at + 2]) * 0x1_0000
-        + wide(cells[at + 3]) * 0x100_0000
-}
-
-// Eight cells as one word.
-fn eight(cells: &[u8], at: usize) -> u64
-    requires { ⌜ at + 8 ≤ length (now cells) ⌝ }
-    ensures { λ r. ⌜ r ≡ joined (take 8 (drop at (now (cells .entry)))) ⌝ }
-{
-    four(cells, at) + four(cells, at + 4) * 0x1_0000_0000
-}
-
-// The lowest bits of eight bytes.
-fn gather(x: u64) -> u64
-    ensures { λ r. ⌜ r ≡ gathered x ⌝ }
-{
-    let a = x & 0x0101_0101_0101_0101;
-    let b = a | (a >> 7);
-    let c = b | (b >> 14);
-    let d = c | (c >> 28);
-    d & 255
-}
-
 pub fn pack(cells: &[u8]) -> Line
     requires { ⌜ (length (now cells) ≤ 64) × (length (now cells) % 8 ≡ 0) × ((i : ℕ) → cell (now cells) i < 3) ⌝ }
     ensures { λ r. ⌜ Packs (length (now (cells .entry))) (now (cells .entry)) r ⌝ }
@@ -220,42 +185,6 @@ pub fn pack(cells: &[u8]) -> Line
 }
 
 // ---- and back
-
-// Eight bits as the lowest bits of eight bytes.
-fn spread(x: u64) -> u64
-    requires { ⌜ x < 256 ⌝ }
-    ensures { λ r. ⌜ (r ≡ joined (digits 8 x)) × (r ≤ 72340172838076673) ⌝ }
-{
-    let a = (x | (x << 28)) & 0x0000_000f_0000_000f;
-    let b = (a | (a << 14)) & 0x0003_0003_0003_0003;
-    (b | (b << 7)) & 0x0101_0101_0101_0101
-}
-
-fn low_byte(x: u64) -> u8
-    ensures { λ r. ⌜ r ≡ x % 256 ⌝ }
-{
-    (x % 256) as u8
-}
-
-// The four low bytes of a word, the lowest first.
-fn put_four(cells: &mut [u8], at: usize, x: u64)
-    requires { ⌜ at + 4 ≤ length (now cells) ⌝ }
-    ensures { λ _. ⌜ now (cells .exit) ≡ sets (now (cells .entry)) at (bytesOf 4 x) ⌝ }
-{
-    cells[at] = low_byte(x);
-    cells[at + 1] = low_byte(x >> 8);
-    cells[at + 2] = low_byte(x >> 16);
-    cells[at + 3] = low_byte(x >> 24);
-}
-
-// The eight bytes of a word.
-fn put_eight(cells: &mut [u8], at: usize, x: u64)
-    requires { ⌜ at + 8 ≤ length (now cells) ⌝ }
-    ensures { λ _. ⌜ now (cells .exit) ≡ sets (now (cells .entry)) at (bytesOf 8 x) ⌝ }
-{
-    put_four(cells, at, x);
-    put_four(cells, at + 4, x >> 32);
-}
 
 pub fn unpack(l: Line, cells: &mut [u8])
     requires { ⌜ length (now cells) % 8 ≡ 0 ⌝ }

@@ -1,2 +1,4 @@
 pub mod SwapLaws
 pub mod CopyLaws
+pub mod ByteLaws
+pub mod GatherLaws

@@ -1,3 +1,4 @@
-// Words of bits and slices of bytes: transposing and copying. Nothing here knows of codes.
+// Bits and bytes in machine words: transposing, copying, gathering and spreading of bytes. Nothing here knows of codes.
+pub mod bytes; // eight bytes at a time, to a word and back
 pub mod copying; // cells from one slice into another
 pub mod transpose; // 64 words become the words of their columns

@@ -8,8 +8,7 @@ use native.Mathlib.Nat.{sub-zero}
 use lib.ListN.{length, take}
 use lib.Seq.{take-all}
 use borrow.Author.Needs.{needs}
-use Rattle.line.specs.Bytes.{cellsOf}
-use Rattle.line.proofs.Spreading.{unpack-turn, put-cells, cells-packed}
+use Rattle.line.proofs.Spreading.{cellsOf, unpack-turn, put-cells, cells-packed}
 use Rattle.line.proofs.packed.unpack.Statement.{statement}
 use Rattle.line.proofs.packed.unpack.Tie as tie
 

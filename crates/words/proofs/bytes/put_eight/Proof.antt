@@ -1,10 +1,10 @@
--- `line::packed::put_eight` meets its contract: eight bytes are four and four.
+-- `bytes::put_eight` meets its contract: eight bytes are four and four.
 -- Assumes nothing.
 use mathlib.Core.Path.{_∙_}
 use borrow.Author.Needs.{needs}
-use Rattle.line.proofs.Spreading.{put-eight-bytes}
-use Rattle.line.proofs.packed.put_eight.Statement.{statement}
-use Rattle.line.proofs.packed.put_eight.Tie as tie
+use Rattle.words.proofs.ByteLaws.{put-eight-bytes}
+use Rattle.words.proofs.bytes.put_eight.Statement.{statement}
+use Rattle.words.proofs.bytes.put_eight.Tie as tie
 
 put-four-requires : tie.Need-put-four-requires
 put-four-requires c κs = search needs
@@ -21,7 +21,7 @@ same-length c = search needs
 returns : tie.Need-returns
 returns c =
     let s = c .before .before .before .before .before .before .before .before .before .args in
-    c .before .before .put-four2 .ensures ∙ rw (c .before .before .before .before .before .before .put-four .ensures) (put-eight-bytes (s .cells .now) (s .at) (s .x))
+    c .before .before .put-four2 .ensures ∙ rw (c .before .before .before .before .before .before .put-four .ensures) (put-eight-bytes (s .bytes .now) (s .at) (s .x))
 
 pub put-eight-spec : {M : Type 1} → statement M
 put-eight-spec =

@@ -1,10 +1,10 @@
--- `line::packed::four` meets its contract: four cells joined, each in a byte of its own.
+-- `bytes::four` meets its contract: four bytes joined, each in a byte of its own.
 -- Assumes nothing.
 use native.Mathlib.Omega.{arith}
 use borrow.Author.Needs.{needs}
-use Rattle.line.proofs.Gathering.{joined-four}
-use Rattle.line.proofs.packed.four.Statement.{statement}
-use Rattle.line.proofs.packed.four.Tie as tie
+use Rattle.words.proofs.ByteLaws.{joined-four}
+use Rattle.words.proofs.bytes.four.Statement.{statement}
+use Rattle.words.proofs.bytes.four.Tie as tie
 
 shared-slice-read-wide : tie.Need-shared-slice-read-wide
 shared-slice-read-wide c = search needs
@@ -60,7 +60,7 @@ add-result-3 c = search needs
 returns : tie.Need-returns
 returns c =
     let s = c .before .before .before .before .before .before .before .before .before in
-    let e = joined-four (s .args .cells .now) (s .args .at) (s .pre) in
+    let e = joined-four (s .args .bytes .now) (s .args .at) (s .pre) in
     (omega arith, omega arith)
 
 pub four-spec : {M : Type 1} → statement M

@@ -1,10 +1,10 @@
--- `line::packed::eight` meets its contract: eight cells are four and four.
+-- `bytes::eight` meets its contract: eight bytes are four and four.
 -- Assumes nothing.
 use native.Mathlib.Omega.{arith}
 use borrow.Author.Needs.{needs}
-use Rattle.line.proofs.Gathering.{joined-eight}
-use Rattle.line.proofs.packed.eight.Statement.{statement}
-use Rattle.line.proofs.packed.eight.Tie as tie
+use Rattle.words.proofs.ByteLaws.{joined-eight}
+use Rattle.words.proofs.bytes.eight.Statement.{statement}
+use Rattle.words.proofs.bytes.eight.Tie as tie
 
 four-requires : tie.Need-four-requires
 four-requires c κs = search needs
@@ -24,7 +24,7 @@ add-result c = search needs
 returns : tie.Need-returns
 returns c =
     let s = c .before .before .before in
-    let e = joined-eight (s .args .cells .now) (s .args .at) (s .pre) in
+    let e = joined-eight (s .args .bytes .now) (s .args .at) (s .pre) in
     omega (arith, c .before .four .ensures .0, c .four2 .ensures .0)
 
 pub eight-spec : {M : Type 1} → statement M
