@@ -19,7 +19,7 @@ use Rattle.line.specs.declared.side.Side.{Side}
 use Rattle.line.specs.declared.side.Side.the-variants.{One, Two}
 use Rattle.line.specs.declared.clause.Clause.{Clause}
 use Rattle.line.specs.declared.clause.Clause.the-variants.{Equal, Crowded, Neither, Agreeing, Unchanged, Open, Afresh, Channel}
-use Rattle.line.specs.Cells.{cell, IsLine, IsWord, isErased, bit, erasures, few, distance, fillingBit, filledCell, filled}
+use Rattle.line.specs.Cells.{cell, IsLine, IsWord, isErased, bit, erasures, few, distance, fillingBit, filledCell, filled, designedDistance, radius}
 use Rattle.line.specs.Bounded.{Answer, Found, Failed, orBack, bounded}
 use Rattle.line.specs.Decoding.{choice, replaced, decode, decoded, message}
 use Rattle.line.specs.Clauses.{other, near, ifNear, firstFit, reach, same, answerCell, agrees, byReach, clause, openChoice, settled}
@@ -37,10 +37,10 @@ module _ {n : ℕ} {Code : List ℕ → Type 0} {dec : List ℕ → Answer} (D :
       where
         go : (a : Answer) → dec w ≡ a → near a (set w k q) ≡ true → dec (set w k q) ≡ a
         go Failed e t = absurd (true≢false (sym t))
-        go (Found c) e t = D .complete (set-cells k q hq l) (D .sound l e .0) (leb-true (distance (set w k q) c) 2 t)
+        go (Found c) e t = D .complete (set-cells k q hq l) (D .sound l e .0) (leb-true (distance (set w k q) c) radius t)
 
-    is-near : {c : List ℕ} → dec w ≡ Found c → distance (set w k q) c ≤ 2 → near (dec w) (set w k q) ≡ true
-    is-near {c} e h = rw e (le-leb (distance (set w k q) c) 2 h)
+    is-near : {c : List ℕ} → dec w ≡ Found c → distance (set w k q) c ≤ radius → near (dec w) (set w k q) ≡ true
+    is-near {c} e h = rw e (le-leb (distance (set w k q) c) radius h)
 
     -- not in reach, and the word unchanged: nothing is found
     unchanged-fails : near (dec w) (set w k q) ≡ false → cell w k ≡ q → dec (set w k q) ≡ Failed
@@ -245,28 +245,28 @@ module _ {n : ℕ} {Code : List ℕ → Type 0} {dec : List ℕ → Answer} (D :
       where
         go : ((cell r k ≡ 2) × (bit (isErased (cell r k)) ≡ 1)) ⊎ ((cell r k ≢ 2) × (bit (isErased (cell r k)) ≡ 0)) → cell r k ≡ 2
         go (inl p) = p .0
-        go (inr p) = absurd (omega (arith, changed, ltb-true (erasures y) 6 e, ltb-false (erasures z) 6 h))
+        go (inr p) = absurd (omega (arith, changed, ltb-true (erasures y) designedDistance e, ltb-false (erasures z) designedDistance h))
 
     -- the cell is decoded afresh
     abbrev isAfresh : Bool
-    isAfresh = eqb (erasures y) 6 && (isErased (cell y k) && not (isErased (cell r k)))
+    isAfresh = eqb (erasures y) designedDistance && (isErased (cell y k) && not (isErased (cell r k)))
 
     -- 6 or more erasures before the replacement and fewer after it
     afresh : few y ≡ false → few z ≡ true → isAfresh ≡ true
     afresh e h = go (erased-or-known (cell y k)) (erased-or-known (cell r k))
       where
-        many : 6 ≤ erasures y
-        many = ltb-false (erasures y) 6 e
+        many : designedDistance ≤ erasures y
+        many = ltb-false (erasures y) designedDistance e
 
-        less : erasures z < 6
-        less = ltb-true (erasures z) 6 h
+        less : erasures z < designedDistance
+        less = ltb-true (erasures z) designedDistance h
 
         go : ((cell y k ≡ 2) × (bit (isErased (cell y k)) ≡ 1)) ⊎ ((cell y k ≢ 2) × (bit (isErased (cell y k)) ≡ 0))
             → ((cell r k ≡ 2) × (bit (isErased (cell r k)) ≡ 1)) ⊎ ((cell r k ≢ 2) × (bit (isErased (cell r k)) ≡ 0))
             → isAfresh ≡ true
         go (inl p) (inr q) =
-            let six : erasures y ≡ 6 = omega (arith, changed, many, less) in
-            rw (eq-eqb (erasures y) 6 six, eq-eqb (cell y k) 2 (p .0), ne-eqb (cell r k) 2 (q .0))
+            let six : erasures y ≡ designedDistance = omega (arith, changed, many, less) in
+            rw (eq-eqb (erasures y) designedDistance six, eq-eqb (cell y k) 2 (p .0), ne-eqb (cell r k) 2 (q .0))
         go (inl p) (inl q) = absurd (omega (arith, changed, many, less))
         go (inr p) q = absurd (omega (arith, changed, many, less))
 

@@ -16,7 +16,7 @@ use Rattle.laws.specs.Sums.{sumTo}
 use Rattle.laws.proofs.Sums.{sum-le, sum-constant, sum-first}
 use Rattle.line.specs.declared.side.Side.the-variants.{One, Two}
 use Rattle.line.specs.declared.clause.Clause.the-variants.{Equal, Crowded, Both, Neither, Agreeing, Unchanged, Open, Afresh, Channel}
-use Rattle.line.specs.Cells.{cell, IsLine, isErased, bit, erasures, few}
+use Rattle.line.specs.Cells.{cell, IsLine, isErased, bit, erasures, few, designedDistance}
 use Rattle.line.specs.Bounded.{Answer, bounded}
 use Rattle.line.specs.Decoding.{replaced}
 use Rattle.line.specs.Clauses.{cost, firstFit, reach, same, agrees, byReach, clause, count}
@@ -63,9 +63,9 @@ module _ (dec : List ℕ → Answer) (y r : List ℕ) (f : ℕ) where
 
   -- with 6 an erased cell costs at most two, with more nothing costs any
   pub many-cost : few y ≡ false → (k : ℕ)
-      → cost (clause dec y r f k) ≤ cond (eqb (erasures y) 6) (2 * bit (isErased (cell y k))) 0
+      → cost (clause dec y r f k) ≤ cond (eqb (erasures y) designedDistance) (2 * bit (isErased (cell y k))) 0
   unfolding clause
-  many-cost e k = rw e (go (eqb (erasures y) 6) (isErased (cell y k)) (not (isErased (cell r k))))
+  many-cost e k = rw e (go (eqb (erasures y) designedDistance) (isErased (cell y k)) (not (isErased (cell r k))))
     where
       go : (p q t : Bool) → cost (cond (p && (q && t)) Afresh Channel) ≤ cond p (2 * cond q 1 0) 0
       go true true true = omega arith
@@ -76,14 +76,14 @@ module _ (dec : List ℕ → Answer) (y r : List ℕ) (f : ℕ) where
   -- the count of a line of at least 10 cells
   count-length : 10 ≤ length y → count dec y r f ≤ length y + 2
   unfolding count
-  count-length h = go (few y) refl (eqb (erasures y) 6) refl
+  count-length h = go (few y) refl (eqb (erasures y) designedDistance) refl
     where
-      go : (p : Bool) → few y ≡ p → (q : Bool) → eqb (erasures y) 6 ≡ q
+      go : (p : Bool) → few y ≡ p → (q : Bool) → eqb (erasures y) designedDistance ≡ q
           → cond p 2 0 + sumTo (λ k. cost (clause dec y r f k)) (length y) ≤ length y + 2
       go true e q eq =
           omega (arith, sum-le (λ k. cost (clause dec y r f k)) (λ k. 1) (length y) (λ k l. few-cost e k), sum-constant 1 (length y))
       go false e true eq =
-          omega (arith, sum-le (λ k. cost (clause dec y r f k)) (λ k. 2 * bit (isErased (cell y k))) (length y) (λ k l. rw eq at (many-cost e k)), sum-erasures y, eqb-true (erasures y) 6 eq)
+          omega (arith, sum-le (λ k. cost (clause dec y r f k)) (λ k. 2 * bit (isErased (cell y k))) (length y) (λ k l. rw eq at (many-cost e k)), sum-erasures y, eqb-true (erasures y) designedDistance eq)
       go false e false eq =
           omega (arith, sum-le (λ k. cost (clause dec y r f k)) (λ k. 0) (length y) (λ k l. rw eq at (many-cost e k)), sum-constant 0 (length y))
 

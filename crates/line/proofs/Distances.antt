@@ -26,7 +26,7 @@ use Rattle.field.specs.Syndrome.{s1, s3, parity}
 use Rattle.field.specs.Fitting.{Within}
 use Rattle.field.proofs.Uniqueness.{unique}
 use Rattle.field.proofs.Primitive.{primitive}
-use Rattle.line.specs.Cells.{IsWord, distance, flip}
+use Rattle.line.specs.Cells.{IsWord, distance, flip, designedDistance}
 use Rattle.line.specs.Codeword.{Codeword, isCodeword}
 use Rattle.line.specs.Bounded.{Answer, Found, Failed, orElse, firstOf, itself, oneFlipped, twoFlipped, within2, bounded}
 use Rattle.line.proofs.CellLaws.{take-bits, word-known, distance-self, distance-parts, distance-length, triangle}
@@ -189,7 +189,7 @@ module _ (d : Degree) where
           (sum (λ i. power d i) e1) (sum (λ i. power d (3 * i)) e3)
 
   -- two codewords differ in 0 or in at least 6 cells
-  pub codewords-apart : {c e : List ℕ} → Codeword d c → Codeword d e → distance c e < 6 → c ≡ e
+  pub codewords-apart : {c e : List ℕ} → Codeword d c → Codeword d e → distance c e < designedDistance → c ≡ e
   codewords-apart {c} {e} p q h =
       let long : length c ≡ length e = p .word .long ∙ sym (q .word .long) in
       let parts = distance-parts (order d) c e in

@@ -1,9 +1,9 @@
 -- The tests of an entry, and the answers that it gives.
 -- Assumes nothing.
-use mathlib.Core.Path.{_≡_, refl, sym, ap, ap₂, _∙_}
+use mathlib.Core.Path.{_≡_, refl, sym, ap, _∙_}
 use mathlib.Core.Bool.{Bool, true, false, _&&_, true≢false}
 use mathlib.Core.List.{List, [], _∷_}
-use Prim.Native.Nat.{ℕ, zero, suc, _+_, _/_, _<_, _≤_}
+use Prim.Native.Nat.{ℕ, zero, suc, _+_, _<_, _≤_}
 use native.Mathlib.Numerals.{add-one}
 use native.Mathlib.Omega.{arith}
 use lib.Dec.{leb}
@@ -16,17 +16,15 @@ use Rattle.degree.specs.declared.Named.{Named}
 use Rattle.degree.specs.declared.Named.the-variants.{Known, Unknown}
 use Rattle.degree.specs.Degree.{size, named}
 use Rattle.line.specs.declared.bounded.Tried.{Tried}
-use Rattle.line.specs.declared.side.Side.{Side}
 use Rattle.line.specs.declared.side.Side.the-variants.{One, Two}
 use Rattle.line.specs.declared.refusals.Call.the-variants.{Taken, Refused}
 use Rattle.line.specs.declared.refusals.Refusal.the-variants.{BadDegree}
-use Rattle.line.specs.Cells.{cell, Cells, few, fillingBit, filled}
+use Rattle.line.specs.Cells.{cell, Cells, few, filled}
 use Rattle.line.specs.Bounded.{Answer, bounded}
 use Rattle.line.specs.Decoding.{choice, decode}
 use Rattle.line.specs.Working.{Answers, failed, found}
 use Rattle.line.specs.Refusals.{atMost, long, shaped, tested, lineCall}
 use Rattle.line.specs.Entries.{isFound}
-use Rattle.line.proofs.CellLaws.{Bits, filled-known}
 
 -- ---- no cell above a bound, looked at one after the other
 
@@ -83,13 +81,6 @@ line-taken bound degree cells d e =
     record { long = eqb-true (length cells) (size d) (t .0); small = at-most-small bound cells (t .1) }
 
 -- ---- answers
-
--- a full word has no cell to fill
-pub filled-full : (s : Side) (w : List ℕ) (f : ℕ) → Bits w → filled s w f ≡ w
-unfolding filled
-filled-full s [] f h = refl
-filled-full s (c ∷ cs) f h =
-    ap₂ (λ (x : ℕ) (l : List ℕ). x ∷ l) (filled-known (fillingBit s f) (λ e. omega (arith, h 0))) (filled-full s cs (f / 2) (λ i. h (suc i)))
 
 -- what was tried says whether something was found
 pub found-is : {n : ℕ} {p : Answer} {t : Tried} → Answers n p t → t .found ≡ isFound p

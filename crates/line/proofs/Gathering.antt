@@ -7,7 +7,6 @@ use Prim.Native.Nat.{ℕ, zero, suc, _+_, _*_, _/_, _%_, _^_, _≤_, _<_}
 use native.Mathlib.Omega.{arith}
 use lib.Bits.{bitOr, or-shifted-r}
 use lib.ListN.{length, take, drop, length-drop}
-use lib.Pow.{shl-exact}
 use lib.Seq.{length-take-le, getD-drop, take-add}
 use Rattle.laws.specs.Bits.{bit}
 use Rattle.words.specs.Bytes.{joined, gathered}
@@ -58,22 +57,21 @@ module _ (cells : List ℕ) (at : ℕ) (room : at + 8 ≤ length cells) where
   part-length : length (take 8 (drop at cells)) ≡ 8
   part-length = length-take-le 8 (drop at cells) (rw length-drop (omega arith))
 
-  more : (p : ℕ → Bool) (w g : ℕ) → length cells ≤ 64 → w ≡ packBy p (take at cells) → g ≡ packBy p (take 8 (drop at cells))
-      → bitOr w (g * 2 ^ at % 2 ^ 64) ≡ packBy p (take (at + 8) cells)
-  more p w g few e f =
+  more : (p : ℕ → Bool) (w g : ℕ) → w ≡ packBy p (take at cells) → g ≡ packBy p (take 8 (drop at cells))
+      → bitOr w (g * 2 ^ at) ≡ packBy p (take (at + 8) cells)
+  more p w g e f =
       let sw : packBy p (take at cells) < 2 ^ at = rw (length-take-le at cells (omega arith)) at (packBy-lt p (take at cells)) in
-      let sg : packBy p (take 8 (drop at cells)) < 2 ^ 8 = rw part-length at (packBy-lt p (take 8 (drop at cells))) in
-      rw (e, f, shl-exact {a = packBy p (take 8 (drop at cells))} 8 at 64 sg (omega arith), or-shifted-r (packBy p (take 8 (drop at cells))) at (packBy p (take at cells)) sw)
+      rw (e, f, or-shifted-r (packBy p (take 8 (drop at cells))) at (packBy p (take at cells)) sw)
       (sym (rw (take-add at 8 cells, packBy-append p (take at cells) (take 8 (drop at cells)), length-take-le at cells (omega arith))))
 
-  module _ (few : length cells ≤ 64) (h : Small 3 cells) (w x g : ℕ) (ex : x ≡ joined (take 8 (drop at cells))) where
-    gathered-more : (f : ℕ → ℕ) (p : ℕ → Bool) → BitOf f p → w ≡ packBy p (take at cells) → g ≡ gathered 8 (f x) → bitOr w (g * 2 ^ at % 2 ^ 64) ≡ packBy p (take (at + 8) cells)
+  module _ (h : Small 3 cells) (w x g : ℕ) (ex : x ≡ joined (take 8 (drop at cells))) where
+    gathered-more : (f : ℕ → ℕ) (p : ℕ → Bool) → BitOf f p → w ≡ packBy p (take at cells) → g ≡ gathered 8 (f x) → bitOr w (g * 2 ^ at) ≡ packBy p (take (at + 8) cells)
     gathered-more f p b e eg =
         let s : Small 3 (take 8 (drop at cells)) = small-take 8 (drop at cells) (small-drop at cells h) in
-        more p w g few e (eg ∙ ap (λ (n : ℕ). gathered 8 (f n)) ex ∙ rw part-length at (gather-joined f p b (take 8 (drop at cells)) s))
+        more p w g e (eg ∙ ap (λ (n : ℕ). gathered 8 (f n)) ex ∙ rw part-length at (gather-joined f p b (take 8 (drop at cells)) s))
 
-    pub ones-more : w ≡ packBy isOne (take at cells) → g ≡ gathered 8 x → bitOr w (g * 2 ^ at % 2 ^ 64) ≡ packBy isOne (take (at + 8) cells)
+    pub ones-more : w ≡ packBy isOne (take at cells) → g ≡ gathered 8 x → bitOr w (g * 2 ^ at) ≡ packBy isOne (take (at + 8) cells)
     ones-more = gathered-more (λ x. x) isOne ones-bit
 
-    pub twos-more : w ≡ packBy isErased (take at cells) → g ≡ gathered 8 (x / 2) → bitOr w (g * 2 ^ at % 2 ^ 64) ≡ packBy isErased (take (at + 8) cells)
+    pub twos-more : w ≡ packBy isErased (take at cells) → g ≡ gathered 8 (x / 2) → bitOr w (g * 2 ^ at) ≡ packBy isErased (take (at + 8) cells)
     twos-more = gathered-more (λ x. x / 2) isErased erased-bit

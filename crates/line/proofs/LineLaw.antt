@@ -15,7 +15,7 @@ use borrow.Author.Tests.{ltb-true, ltb-false, lt-ltb}
 use Rattle.degree.specs.declared.Degree.{Degree}
 use Rattle.degree.specs.Degree.{size}
 use Rattle.line.specs.declared.side.Side.the-variants.{One, Two}
-use Rattle.line.specs.Cells.{cell, Cells, IsLine, IsWord, isErased, bit, erasures, few, differs, distance, filledCell, filled}
+use Rattle.line.specs.Cells.{cell, Cells, IsLine, IsWord, isErased, bit, erasures, few, differs, distance, filledCell, filled, designedDistance}
 use Rattle.line.specs.Codeword.{Codeword}
 use Rattle.line.specs.Bounded.{Answer, Found, Failed, orBack, bounded}
 use Rattle.line.specs.Decoding.{choice, replaced, listTo, decode, decoded, message, messages}
@@ -95,10 +95,10 @@ module _ (d : Degree) where
   D = bounded-decoder d
 
   -- the line law: with twice the wrong known cells plus the erased ones below 6, the sent codeword comes out
-  pub line-law : {y c : List ℕ} (f : ℕ) → IsLine (size d) y → Codeword d c → 2 * distance y c + erasures y < 6 → decode (bounded d) y f ≡ Found c
+  pub line-law : {y c : List ℕ} (f : ℕ) → IsLine (size d) y → Codeword d c → 2 * distance y c + erasures y < designedDistance → decode (bounded d) y f ≡ Found c
   unfolding decode
   line-law {y} {c} f l p h =
-      rw (lt-ltb (erasures y) 6 (omega arith)) (pick (decLe (distance (filled One y f) c) 2))
+      rw (lt-ltb (erasures y) designedDistance (omega arith)) (pick (decLe (distance (filled One y f) c) 2))
     where
       w : IsWord (size d) c
       w = D .word p
@@ -183,12 +183,12 @@ module _ (d : Degree) where
       listTo-is (message (bounded d) c r f) (length c) c refl (λ k h. codeword-message f k p lr (rw (D .word p .long) at h))
 
   -- the message of a received line that the line law covers, with the same line as channel, is the sent codeword's cell
-  pub received-message : {r c : List ℕ} (f k : ℕ) → IsLine (size d) r → Codeword d c → 2 * distance r c + erasures r < 6
+  pub received-message : {r c : List ℕ} (f k : ℕ) → IsLine (size d) r → Codeword d c → 2 * distance r c + erasures r < designedDistance
       → message (bounded d) r r f k ≡ cell c k
   received-message {r} {c} f k l p h = rw (equal-message (bounded d) r r f k refl, line-law f l p h)
 
   -- so all its messages are the sent codeword
-  pub received-messages : {r c : List ℕ} (f : ℕ) → IsLine (size d) r → Codeword d c → 2 * distance r c + erasures r < 6 → messages (bounded d) r r f ≡ c
+  pub received-messages : {r c : List ℕ} (f : ℕ) → IsLine (size d) r → Codeword d c → 2 * distance r c + erasures r < designedDistance → messages (bounded d) r r f ≡ c
   unfolding messages
   received-messages {r} {c} f l p h =
       listTo-is (message (bounded d) r r f) (length r) c (D .word p .long ∙ sym (l .long)) (λ k q. received-message f k l p h)

@@ -17,7 +17,8 @@ use Rattle.degree.specs.declared.Degree.{Degree}
 use Rattle.degree.specs.Degree.{size}
 use Rattle.line.specs.declared.clause.Clause.the-variants.{Equal, Channel}
 use Rattle.line.specs.declared.packed.Line.{Line}
-use Rattle.line.specs.Cells.{cell, isOne, isErased, erasures, few}
+use Rattle.line.specs.Word.{value}
+use Rattle.line.specs.Cells.{cell, isOne, isErased, erasures, few, designedDistance}
 use Rattle.line.specs.Bounded.{bounded}
 use Rattle.line.specs.Decoding.{decoded, message}
 use Rattle.line.specs.Clauses.{cost, clause, settled}
@@ -49,18 +50,18 @@ not-fresh true true e = refl
 not-fresh true false e = let z : ⊥ = omega arith in elim z [ ]
 not-fresh false c e = refl
 
-ones-lt : {n : ℕ} {cs : List ℕ} {l : Line} → Packs n cs l → l .ones < 2 ^ n
+ones-lt : {n : ℕ} {cs : List ℕ} {l : Line} → Packs n cs l → value (l .ones) < 2 ^ n
 ones-lt {n} {cs} p = rw (p .ones, ← p .cells .long) (packBy-lt isOne cs)
 
-erased-lt : {n : ℕ} {cs : List ℕ} {l : Line} → Packs n cs l → l .erased < 2 ^ n
+erased-lt : {n : ℕ} {cs : List ℕ} {l : Line} → Packs n cs l → value (l .erased) < 2 ^ n
 erased-lt {n} {cs} p = rw (p .erased, ← p .cells .long) (packBy-lt isErased cs)
 
 module _ (d : Degree) (ys rs : List ℕ) (f : ℕ) {y r : Line} (p : Packs (size d) ys y) (q : Packs (size d) rs r) {e : ℕ} (h : e ≡ erasures ys) where
   -- cells without a bit are equal
-  cells-equal : (k : ℕ) → bitAt (bitOr (bitXor (y .ones) (r .ones)) (bitXor (y .erased) (r .erased))) k ≡ 0 → cell ys k ≡ cell rs k
+  cells-equal : (k : ℕ) → bitAt (bitOr (bitXor (value (y .ones)) (value (r .ones))) (bitXor (value (y .erased)) (value (r .erased)))) k ≡ 0 → cell ys k ≡ cell rs k
   cells-equal k z =
-      let s = none-differ (bit-at-lt (y .ones) k) (bit-at-lt (r .ones) k) (bit-at-lt (y .erased) k) (bit-at-lt (r .erased) k)
-      (sym (or-at (bitXor (y .ones) (r .ones)) (bitXor (y .erased) (r .erased)) k ∙ ap₂ bitOr (xor-at (y .ones) (r .ones) k) (xor-at (y .erased) (r .erased) k)) ∙ z) in
+      let s = none-differ (bit-at-lt (value (y .ones)) k) (bit-at-lt (value (r .ones)) k) (bit-at-lt (value (y .erased)) k) (bit-at-lt (value (r .erased)) k)
+      (sym (or-at (bitXor (value (y .ones)) (value (r .ones))) (bitXor (value (y .erased)) (value (r .erased))) k ∙ ap₂ bitOr (xor-at (value (y .ones)) (value (r .ones)) k) (xor-at (value (y .erased)) (value (r .erased)) k)) ∙ z) in
       sym (cell-of-line k p) ∙ ap₂ (λ (a b : ℕ). a + 2 * b) (s .0) (s .1) ∙ cell-of-line k q
 
   -- the message of a cell that is settled by the clause equal, or with 6 or more erasures by the clause channel
@@ -73,30 +74,30 @@ module _ (d : Degree) (ys rs : List ℕ) (f : ℕ) {y r : Line} (p : Packs (size
       go true = (refl, refl)
       go false = (refl, refl)
 
-  pub few-mask : e < 6 → Masks d ys rs f (bitOr (bitXor (y .ones) (r .ones)) (bitXor (y .erased) (r .erased)))
+  pub few-mask : e < designedDistance → Masks d ys rs f (bitOr (bitXor (value (y .ones)) (value (r .ones))) (bitXor (value (y .erased)) (value (r .erased))))
   few-mask l =
       record {
         small = or-lt (size d) _ _ (xor-lt (size d) _ _ (ones-lt p) (ones-lt q)) (xor-lt (size d) _ _ (erased-lt p) (erased-lt q));
         rest = λ k hk z. outside k hk (rw (is-few ys e h l) (equal-clause d ys rs f k (p .cells) (q .cells) hk (is-few ys e h l) (cells-equal k z)));
       }
 
-  known-there : (k : ℕ) → bitAt (bitXor (y .erased) (bitAnd (y .erased) (r .erased))) k ≡ 0 → (eqb (cell ys k) 2 && not (eqb (cell rs k) 2)) ≡ false
+  known-there : (k : ℕ) → bitAt (bitXor (value (y .erased)) (bitAnd (value (y .erased)) (value (r .erased)))) k ≡ 0 → (eqb (cell ys k) 2 && not (eqb (cell rs k) 2)) ≡ false
   known-there k z =
       not-fresh (isErased (cell ys k)) (isErased (cell rs k))
-      (sym (xor-at (y .erased) (bitAnd (y .erased) (r .erased)) k ∙ ap₂ bitXor (at p) (and-at (y .erased) (r .erased) k ∙ ap₂ bitAnd (at p) (at q))) ∙ z)
+      (sym (xor-at (value (y .erased)) (bitAnd (value (y .erased)) (value (r .erased))) k ∙ ap₂ bitXor (at p) (and-at (value (y .erased)) (value (r .erased)) k ∙ ap₂ bitAnd (at p) (at q))) ∙ z)
     where
-      at : {cs : List ℕ} {l : Line} → Packs (size d) cs l → bitAt (l .erased) k ≡ bit (isErased (cell cs k))
+      at : {cs : List ℕ} {l : Line} → Packs (size d) cs l → bitAt (value (l .erased)) k ≡ bit (isErased (cell cs k))
       at {cs} p = rw (p .erased) (packBy-bit isErased refl cs k)
 
-  channel-rest : 6 ≤ e → (k : ℕ) → k < size d → (eqb (erasures ys) 6 && (eqb (cell ys k) 2 && not (eqb (cell rs k) 2))) ≡ false → cond (few ys) Equal Channel ≡ clause (bounded d) ys rs f k
+  channel-rest : designedDistance ≤ e → (k : ℕ) → k < size d → (eqb (erasures ys) designedDistance && (eqb (cell ys k) 2 && not (eqb (cell rs k) 2))) ≡ false → cond (few ys) Equal Channel ≡ clause (bounded d) ys rs f k
   channel-rest l k hk z = rw (is-many ys e h l) (many-clause d ys rs f k (p .cells) (q .cells) hk (is-many ys e h l) false z)
 
-  pub six-mask : 6 ≤ e → e ≡ 6 → Masks d ys rs f (bitXor (y .erased) (bitAnd (y .erased) (r .erased)))
+  pub six-mask : designedDistance ≤ e → e ≡ designedDistance → Masks d ys rs f (bitXor (value (y .erased)) (bitAnd (value (y .erased)) (value (r .erased))))
   six-mask l s =
       record {
         small = xor-lt (size d) _ _ (erased-lt p) (and-lt (size d) _ _ (erased-lt p) (erased-lt q));
-        rest = λ k hk z. outside k hk (channel-rest l k hk (rw (eq-eqb (erasures ys) 6 (sym h ∙ s)) (known-there k z)));
+        rest = λ k hk z. outside k hk (channel-rest l k hk (rw (eq-eqb (erasures ys) designedDistance (sym h ∙ s)) (known-there k z)));
       }
 
-  pub more-mask : 6 ≤ e → e ≢ 6 → Masks d ys rs f 0
-  more-mask l s = record { small = pow-pos (size d); rest = λ k hk z. outside k hk (channel-rest l k hk (rw (ne-eqb (erasures ys) 6 (λ g. s (h ∙ g))))) }
+  pub more-mask : designedDistance ≤ e → e ≢ designedDistance → Masks d ys rs f 0
+  more-mask l s = record { small = pow-pos (size d); rest = λ k hk z. outside k hk (channel-rest l k hk (rw (ne-eqb (erasures ys) designedDistance (λ g. s (h ∙ g))))) }

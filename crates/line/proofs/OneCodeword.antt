@@ -1,10 +1,10 @@
 -- Where both fillings decode to one codeword, it is the message of each cell at which it stays in reach of both.
 -- Assumes nothing.
-use mathlib.Core.Path.{_≡_, refl, sym, ap, ap₂, _∙_, subst}
+use mathlib.Core.Path.{_≡_, refl, sym, ap, ap₂, _∙_}
 use mathlib.Core.Bool.{Bool, true, false, cond, _&&_, _||_, not, true≢false, or-true}
 use mathlib.Core.Logic.{_⊎_, inl, inr}
 use mathlib.Core.List.{List}
-use Prim.Native.Nat.{ℕ, _<_}
+use Prim.Native.Nat.{ℕ, _+_, _<_}
 use native.Mathlib.Omega.{arith}
 use native.Mathlib.Decide.{ℕ-discrete}
 use native.Mathlib.Nat.{lt-of-le-of-lt}
@@ -20,11 +20,12 @@ use Rattle.degree.specs.Degree.{size}
 use Rattle.line.specs.declared.side.Side.{Side}
 use Rattle.line.specs.declared.side.Side.the-variants.{One, Two}
 use Rattle.line.specs.declared.packed.Line.{Line}
-use Rattle.line.specs.Cells.{cell, isErased, erasures, few, distance, filled}
-use Rattle.line.specs.Packed.{packBy, Packs, PacksWord}
+use Rattle.line.specs.Cells.{cell, isErased, erasures, few, distance, filled, designedDistance, radius}
+use Rattle.line.specs.Packed.{packBy, Packs}
+use Rattle.line.specs.Word.{value}
 use Rattle.line.proofs.Words.{packBy-bit}
-use Rattle.line.proofs.Packing.{bit-of-word, as-line}
-use Rattle.line.proofs.RowLaws.{packs-one}
+use Rattle.line.proofs.Packing.{bit-of-word}
+use Rattle.line.proofs.RowLaws.{word-packs-one}
 use Rattle.line.specs.declared.bounded.Tried.{Tried}
 use Rattle.line.specs.Bounded.{Answer, Found, Failed, orBack, bounded}
 use Rattle.line.specs.Decoding.{choice, replaced, decode, message}
@@ -51,17 +52,19 @@ stays-bit {a} {c} {o} ha hc ho =
     (bit-ind (λ (o : ℕ). bitXor (bitXor 1 0) (bitAnd (bitXor 1 0) (bitXor o 1)) ≡ 0 → (eqb 1 0 || not (eqb o 1)) ≡ true) (λ z. refl) (λ z. absurd (omega arith)) ho)
     (λ z. refl) hc) ha
 
-pub stays-at : (h : Half) (k : ℕ) → bitAt (bitXor (bitXor (h .before) (h .channel)) (bitAnd (bitXor (h .before) (h .channel)) (bitXor (h .tried .word) (h .before)))) k ≡ 0
+pub stays-at : (h : Half) (k : ℕ) → {m w v : ℕ}
+    → m ≡ bitXor (value (h .before)) (value (h .channel)) → v ≡ bitXor (value (h .tried .word)) (value (h .before)) → w ≡ bitXor m (bitAnd m v) → bitAt w k ≡ 0
     → stays h k ≡ true
-stays-at h k z =
-    let a = h .before in
-    let c = h .channel in
-    let o = h .tried .word in
+stays-at h k em ev ew z =
+    let a = value (h .before) in
+    let c = value (h .channel) in
+    let o = value (h .tried .word) in
+    let whole = ew ∙ ap₂ (λ (m v : ℕ). bitXor m (bitAnd m v)) em ev in
     let e = xor-at (bitXor a c) (bitAnd (bitXor a c) (bitXor o a)) k
     ∙ ap₂ bitXor (xor-at a c k) (and-at (bitXor a c) (bitXor o a) k ∙ ap₂ bitAnd (xor-at a c k) (xor-at o a k)) in
-    ap (λ (x : Bool). ltb (h .far) 2 || x) (stays-bit (bit-at-lt a k) (bit-at-lt c k) (bit-at-lt o k) (sym e ∙ z)) ∙ or-true (ltb (h .far) 2)
+    ap (λ (x : Bool). ltb (h .far) radius || x) (stays-bit (bit-at-lt a k) (bit-at-lt c k) (bit-at-lt o k) (sym e ∙ sym (ap (λ (x : ℕ). bitAt x k) whole) ∙ z)) ∙ or-true (ltb (h .far) radius)
 
-pub crowding-at : {n : ℕ} {rs : List ℕ} {r : Line} (k : ℕ) → Packs n rs r → bitAt (r .erased) k ≡ 0 → isErased (cell rs k) ≡ false
+pub crowding-at : {n : ℕ} {rs : List ℕ} {r : Line} (k : ℕ) → Packs n rs r → bitAt (value (r .erased)) k ≡ 0 → isErased (cell rs k) ≡ false
 crowding-at {rs} {r} k q z = go (isErased (cell rs k)) (sym (rw (q .erased) (packBy-bit isErased refl rs k)) ∙ z)
   where
     go : (t : Bool) → bit t ≡ 0 → t ≡ false
@@ -76,11 +79,11 @@ pub record Agree (p q : Answer) : Type 0 where
   pub first : p ≡ Found codeword
   pub second : q ≡ Found codeword
 
-agree : {n : ℕ} {p q : Answer} {t u : Tried} → Answers n p t → Answers n q u → t .found ≡ true → u .found ≡ true → t .word ≡ u .word → Agree p q
+agree : {n : ℕ} {p q : Answer} {t u : Tried} → Answers n p t → Answers n q u → t .found ≡ true → u .found ≡ true → value (t .word) ≡ value (u .word) → Agree p q
 agree (failed e) b f g w = absurd (true≢false (sym f ∙ e))
 agree (found e x) (failed l) f g w = absurd (true≢false (sym g ∙ l))
 agree {n} (found {c} e x) (found {c = c′} l z) f g w =
-    record { codeword = c; first = refl; second = ap Found (packs-one (as-line (subst (PacksWord n c′) (sym w) z)) (as-line x)) }
+    record { codeword = c; first = refl; second = ap Found (word-packs-one (sym w) z x) }
 
 choice-one : (y c : List ℕ) → choice y (Found c) (Found c) ≡ Found c
 choice-one y c = go (ltb (distance y c) (distance y c))
@@ -89,17 +92,23 @@ choice-one y c = go (ltb (distance y c) (distance y c))
     go true = refl
     go false = refl
 
-module _ (d : Degree) (ys rs : List ℕ) (f : ℕ) {y r : Line} (p : Packs (size d) ys y) (q : Packs (size d) rs r) {b : Base} (B : Based d ys rs f b)
-    (e : few ys ≡ true) (o : oneCodeword b ≡ true) where
+module _ (d : Degree) (ys rs : List ℕ) (f : ℕ) {b : Base} (B : Based d ys rs f b) (e : few ys ≡ true) (o : oneCodeword b ≡ true) where
+  -- the incoming line and the channel line, packed
+  p : Packs (size d) ys (b .incoming)
+  p = B .incoming
+
+  q : Packs (size d) rs (b .channel)
+  q = B .channel
+
   agreed : Agree (bounded d (filled One ys f)) (bounded d (filled Two ys f))
   agreed =
-      let s = and-true (b .one .tried .found && b .two .tried .found) (eqb (b .one .tried .word) (b .two .tried .word)) o in
+      let s = and-true (b .one .tried .found && b .two .tried .found) (eqb (value (b .one .tried .word)) (value (b .two .tried .word))) o in
       let t = and-true (b .one .tried .found) (b .two .tried .found) (s .0) in
-      agree (B .one e .tried) (B .two e .tried) (t .0) (t .1) (eqb-true (b .one .tried .word) (b .two .tried .word) (s .1))
+      agree (B .one e .tried) (B .two e .tried) (t .0) (t .1) (eqb-true (value (b .one .tried .word)) (value (b .two .tried .word)) (s .1))
 
   in-reach : (k : ℕ) → k < size d → (s : Side) (h : Half) → Halves d ys rs f s h → h .tried .found ≡ true → stays h k ≡ true → reach (bounded d) ys rs f k s ≡ true
   in-reach k hk s h H g t =
-      sym (reach-at d ys rs f k (p .cells) (q .cells) hk s h H (bitAt (h .tried .word) k) (λ c w. bit-of-word k w))
+      sym (reach-at d ys rs f k (p .cells) (q .cells) hk s h H (bitAt (value (h .tried .word)) k) (λ c w. bit-of-word k w))
       ∙ rw (g, ← bit-of-word k (H .before), ← (bit-of-word k (H .channel) ∙ channel-bit d ys rs f k (p .cells) (q .cells) hk s)) t
 
   both-clause : (k : ℕ) → reach (bounded d) ys rs f k One ≡ true → reach (bounded d) ys rs f k Two ≡ true → Both ≡ byReach (bounded d) ys rs f k
@@ -111,14 +120,14 @@ module _ (d : Degree) (ys rs : List ℕ) (f : ℕ) {y r : Line} (p : Packs (size
   own-cell k A = rw (e, A .first, A .second, choice-one ys (A .codeword), choice-one (replaced ys rs k) (A .codeword)) refl
 
   -- a cell at which it stays in reach of both
-  pub own-message : (k : ℕ) → k < size d → stays (b .one) k ≡ true → stays (b .two) k ≡ true → (eqb (b .erased) 5 && eqb (cell rs k) 2) ≡ false
+  pub own-message : (k : ℕ) → k < size d → stays (b .one) k ≡ true → stays (b .two) k ≡ true → (eqb (b .erased + 1) designedDistance && eqb (cell rs k) 2) ≡ false
       → (cell (start d ys rs f) k ≡ message (bounded d) ys rs f k) × (cost (clause (bounded d) ys rs f k) ≡ 0)
   own-message k hk g h l = go (ℕ-discrete (cell ys k) (cell rs k))
     where
       s : (b .one .tried .found ≡ true) × (b .two .tried .found ≡ true)
       s =
           and-true (b .one .tried .found) (b .two .tried .found)
-          (and-true (b .one .tried .found && b .two .tried .found) (eqb (b .one .tried .word) (b .two .tried .word)) o .0)
+          (and-true (b .one .tried .found && b .two .tried .found) (eqb (value (b .one .tried .word)) (value (b .two .tried .word))) o .0)
 
       go : Dec (cell ys k ≡ cell rs k) → (cell (start d ys rs f) k ≡ message (bounded d) ys rs f k) × (cost (clause (bounded d) ys rs f k) ≡ 0)
       go (yes z) = outside d ys rs f p q (B .erased) k hk (rw e (equal-clause d ys rs f k (p .cells) (q .cells) hk e z))
@@ -130,7 +139,7 @@ module _ (d : Degree) (ys rs : List ℕ) (f : ℕ) {y r : Line} (p : Packs (size
 
   -- so the mask of the cells at which it does not
   pub own-mask : (a l m c : ℕ) → Masks d ys rs f a → ((k : ℕ) → bitAt l k ≡ 0 → stays (b .one) k ≡ true) → ((k : ℕ) → bitAt m k ≡ 0 → stays (b .two) k ≡ true)
-      → ((k : ℕ) → bitAt c k ≡ 0 → (eqb (b .erased) 5 && eqb (cell rs k) 2) ≡ false) → Masks d ys rs f (bitAnd a (bitOr l (bitOr m c)))
+      → ((k : ℕ) → bitAt c k ≡ 0 → (eqb (b .erased + 1) designedDistance && eqb (cell rs k) 2) ≡ false) → Masks d ys rs f (bitAnd a (bitOr l (bitOr m c)))
   own-mask a l m c A L M C = record { small = lt-of-le-of-lt (and-le-l a (bitOr l (bitOr m c))) (A .small); rest = rest }
     where
       rest : (k : ℕ) → k < size d → bitAt (bitAnd a (bitOr l (bitOr m c))) k ≡ 0 → (cell (start d ys rs f) k ≡ message (bounded d) ys rs f k) × (cost (clause (bounded d) ys rs f k) ≡ 0)

@@ -13,14 +13,16 @@ use Rattle.laws.specs.Bits.{bit, xorb}
 use Rattle.laws.proofs.Xor.{bit-ind}
 use Rattle.laws.proofs.Bits.{bit-one}
 use Rattle.line.specs.declared.side.Side.the-variants.{One, Two}
+use Rattle.line.specs.declared.word.Word.{Word}
 use Rattle.line.specs.declared.packed.Line.{Line}
+use Rattle.line.specs.Word.{value, width}
 use Rattle.line.specs.Cells.{cell, isOne, isErased, erasures, distance, filled, flip}
 use Rattle.line.specs.Packed.{packBy, Packs, PacksWord}
 use Rattle.line.proofs.CellLaws.{set-cells, filled-word}
 use Rattle.line.proofs.Words.{packBy-lt, packBy-bit, packBy-set, cell-ind, cell-of, filled-first, filled-second, no-erased, ones-erased, ones-differing}
 
 -- cell k of a packed line
-pub cell-of-line : {n : ℕ} {cs : List ℕ} {l : Line} (k : ℕ) → Packs n cs l → l .ones / 2 ^ k % 2 + 2 * (l .erased / 2 ^ k % 2) ≡ cell cs k
+pub cell-of-line : {n : ℕ} {cs : List ℕ} {l : Line} (k : ℕ) → Packs n cs l → value (l .ones) / 2 ^ k % 2 + 2 * (value (l .erased) / 2 ^ k % 2) ≡ cell cs k
 cell-of-line {cs} k p =
     rw (p .ones, p .erased, packBy-bit isOne refl cs k, packBy-bit isErased refl cs k) (cell-of (p .cells .small k))
 
@@ -40,60 +42,65 @@ put-by p z cs w k c x e h g = rw (e, g, packBy-bit p z cs k, xor-bit (p (cell cs
 
 -- a cell put in a packed line
 pub put-cell : {n : ℕ} {cs : List ℕ} {l : Line} (k c : ℕ) → Packs n cs l → k < n → c < 3
-    → (o e : ℕ) → o ≡ bitXor (l .ones) (bitXor (l .ones / 2 ^ k % 2) (c % 2) * 2 ^ k) → e ≡ bitXor (l .erased) (bitXor (l .erased / 2 ^ k % 2) (c / 2 % 2) * 2 ^ k)
+    → {o e : Word} → value o ≡ bitXor (value (l .ones)) (bitXor (value (l .ones) / 2 ^ k % 2) (c % 2) * 2 ^ k)
+    → value e ≡ bitXor (value (l .erased)) (bitXor (value (l .erased) / 2 ^ k % 2) (c / 2 % 2) * 2 ^ k)
     → Packs n (set cs k c) (record { ones = o; erased = e })
-put-cell {cs} {l} k c p h g o e eo ee =
+put-cell {cs} {l} k c p h g eo ee =
     let m : k < length cs = rw (p .cells .long) h in record {
       room = p .room;
       cells = set-cells k c g (p .cells);
-      ones = eo ∙ put-by isOne refl cs (l .ones) k c (c % 2) (p .ones) m (cell-ind (λ (c : ℕ). c % 2 ≡ bit (isOne c)) refl refl refl g);
-      erased = ee ∙ put-by isErased refl cs (l .erased) k c (c / 2 % 2) (p .erased) m (cell-ind (λ (c : ℕ). c / 2 % 2 ≡ bit (isErased c)) refl refl refl g);
+      ones = eo ∙ put-by isOne refl cs (value (l .ones)) k c (c % 2) (p .ones) m (cell-ind (λ (c : ℕ). c % 2 ≡ bit (isOne c)) refl refl refl g);
+      erased = ee ∙ put-by isErased refl cs (value (l .erased)) k c (c / 2 % 2) (p .erased) m (cell-ind (λ (c : ℕ). c / 2 % 2 ≡ bit (isErased c)) refl refl refl g);
     }
 
-pub filled-one : {n : ℕ} {cs : List ℕ} {l : Line} (f : ℕ) → Packs n cs l → PacksWord n (filled One cs f) (bitOr (l .ones) (bitAnd (l .erased) f))
+pub filled-one : {n : ℕ} {cs : List ℕ} {l : Line} (f : ℕ) → Packs n cs l → PacksWord n (filled One cs f) (bitOr (value (l .ones)) (bitAnd (value (l .erased)) f))
 filled-one {cs} f p = record { room = p .room; cells = filled-word One f (p .cells); ones = rw (p .ones, p .erased) (filled-first cs f (p .cells .small)) }
 
-pub filled-two : {n : ℕ} {cs : List ℕ} {l : Line} (f : ℕ) → Packs n cs l → PacksWord n (filled Two cs f) (bitXor (bitOr (l .ones) (bitAnd (l .erased) f)) (l .erased))
+pub filled-two : {n : ℕ} {cs : List ℕ} {l : Line} (f : ℕ) → Packs n cs l → PacksWord n (filled Two cs f) (bitXor (bitOr (value (l .ones)) (bitAnd (value (l .erased)) f)) (value (l .erased)))
 filled-two {cs} f p =
     record { room = p .room; cells = filled-word Two f (p .cells); ones = rw (p .ones, p .erased, filled-first cs f (p .cells .small)) (filled-second cs f (p .cells .small)) }
 
+-- a word that packs cells by another name
+pub packed-as : {n : ℕ} {ws : List ℕ} {v w : ℕ} → v ≡ w → PacksWord n ws w → PacksWord n ws v
+packed-as e p = record { room = p .room; cells = p .cells; ones = e ∙ p .ones }
+
 -- a word is a line with no erasure
-pub as-line : {n : ℕ} {ws : List ℕ} {w : ℕ} → PacksWord n ws w → Packs n ws (record { ones = w; erased = 0 })
-as-line {ws} p =
+pub as-line : {n : ℕ} {ws : List ℕ} {w none : Word} → value none ≡ 0 → PacksWord n ws (value w) → Packs n ws (record { ones = w; erased = none })
+as-line {ws} z p =
     record {
       room = p .room;
       cells = record { long = p .cells .long; small = λ i. let h : cell ws i < 2 = p .cells .small i in omega arith };
       ones = p .ones;
-      erased = sym (no-erased ws (p .cells .small));
+      erased = z ∙ sym (no-erased ws (p .cells .small));
     }
 
-pub erasures-of : {n : ℕ} {cs : List ℕ} {l : Line} → Packs n cs l → ones (l .erased) ≡ erasures cs
+-- a line with no unsure cell is a word
+pub as-word : {n : ℕ} {ws : List ℕ} {l : Line} {w : Word} → w ≡ l .ones → ((i : ℕ) → cell ws i < 2) → Packs n ws l → PacksWord n ws (value w)
+as-word e h p = record { room = p .room; cells = record { long = p .cells .long; small = h }; ones = ap value e ∙ p .ones }
+
+pub erasures-of : {n : ℕ} {cs : List ℕ} {l : Line} → Packs n cs l → ones (value (l .erased)) ≡ erasures cs
 erasures-of {cs} p = rw (p .erased) (ones-erased cs)
 
 -- the ones of an xor under the known mask
 pub differences-of : {n : ℕ} {cs ws : List ℕ} {l : Line} {w : ℕ} → Packs n cs l → PacksWord n ws w
-    → ones (bitAnd (bitXor w (l .ones)) (2 ^ 64 - 1 - l .erased)) ≡ distance cs ws
+    → ones (bitAnd (bitXor w (value (l .ones))) (2 ^ width - 1 - value (l .erased))) ≡ distance cs ws
 differences-of {cs} {ws} p q =
-    rw (p .ones, p .erased, q .ones) (ones-differing 64 cs ws (q .cells .long ∙ sym (p .cells .long)) (rw (p .cells .long) (p .room)) (p .cells .small) (q .cells .small))
+    rw (p .ones, p .erased, q .ones) (ones-differing width cs ws (q .cells .long ∙ sym (p .cells .long)) (rw (p .cells .long) (p .room)) (p .cells .small) (q .cells .small))
 
 -- a line whose erased word is 0 has no erasure
-pub no-erasures : {n : ℕ} {cs : List ℕ} {l : Line} → Packs n cs l → l .erased ≡ 0 → 0 ≡ erasures cs
+pub no-erasures : {n : ℕ} {cs : List ℕ} {l : Line} → Packs n cs l → value (l .erased) ≡ 0 → 0 ≡ erasures cs
 unfolding ones
 no-erasures p e = rw e at (erasures-of p)
 
 -- a line that holds the ones of a word differs from it in no known cell
-pub no-differences : {n : ℕ} {cs ws : List ℕ} {l : Line} {w : ℕ} → Packs n cs l → PacksWord n ws w → w ≡ l .ones → 0 ≡ distance cs ws
+pub no-differences : {n : ℕ} {cs ws : List ℕ} {l : Line} {w : ℕ} → Packs n cs l → PacksWord n ws w → w ≡ value (l .ones) → 0 ≡ distance cs ws
 unfolding ones
 no-differences {l} {w} p q e =
-    let known = 2 ^ 64 - 1 - l .erased in
-    let none : bitXor w (l .ones) ≡ 0 = rw (← e) (xor-self w) in
+    let known = 2 ^ width - 1 - value (l .erased) in
+    let none : bitXor w (value (l .ones)) ≡ 0 = rw (← e) (xor-self w) in
     let left : bitAnd 0 known ≡ 0 = omega (arith, and-le-l 0 known) in
-    let zero : ones (bitAnd (bitXor w (l .ones)) known) ≡ 0 = rw (none, left) refl in
+    let zero : ones (bitAnd (bitXor w (value (l .ones))) known) ≡ 0 = rw (none, left) refl in
     sym zero ∙ differences-of p q
-
--- a line by its two words
-pub line-is : {l : Line} {o e : ℕ} → (l .ones ≡ o) × (l .erased ≡ e) → l ≡ record { ones = o; erased = e }
-line-is {l} h = rw (← h .0, ← h .1)
 
 -- a cell of a packed word flipped
 pub flip-packed : {n : ℕ} {ws : List ℕ} {w : ℕ} (k : ℕ) → PacksWord n ws w → k < n → PacksWord n (flip k ws) (bitXor w (1 * 2 ^ k % 2 ^ 64))

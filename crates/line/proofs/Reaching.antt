@@ -20,11 +20,12 @@ use Rattle.line.specs.declared.clause.Clause.the-variants.{Equal, Crowde
 use Rattle.line.specs.declared.bounded.Tried.{Tried}
 use Rattle.line.specs.declared.clause.Half.{Half}
 use Rattle.line.specs.declared.clause.Seen.{Seen}
-use Rattle.line.specs.Cells.{IsLine, cell, isErased, erasures, few, differs, distance, filled, filledCell, fillingBit}
+use Rattle.line.specs.Cells.{IsLine, cell, isErased, erasures, few, differs, distance, filled, filledCell, fillingBit, designedDistance, radius}
 use Rattle.line.specs.Bounded.{Answer, Found, Failed, orBack, bounded}
 use Rattle.line.specs.Decoding.{replaced}
 use Rattle.line.specs.Clauses.{near, reach, same, agrees, answerCell, firstFit, byReach, clause}
 use Rattle.line.specs.Packed.{PacksWord}
+use Rattle.line.specs.Word.{value}
 use Rattle.line.specs.Working.{Answers, failed, found}
 use Rattle.line.specs.Fillings.{Halves, Sees}
 use Rattle.line.proofs.CellLaws.{bitsFrom, filled-cell, filled-word, distance-set, erased-or-known}
@@ -32,33 +33,33 @@ use Rattle.line.proofs.Distances.{bounded-decoder}
 use Rattle.line.proofs.ClauseLaws.{now-is, now-cell, z-cell, new-lt, changed}
 
 -- the word of an answer
-pub word-of : {n : ℕ} {p : Answer} {t : Tried} → Answers n p t → (c : List ℕ) → p ≡ Found c → PacksWord n c (t .word)
+pub word-of : {n : ℕ} {p : Answer} {t : Tried} → Answers n p t → (c : List ℕ) → p ≡ Found c → PacksWord n c (value (t .word))
 word-of (failed e) c h = let z : _≡_ {A = ℕ} 0 1 = cc in absurd (omega arith)
-word-of {n} {t} (found {c = x} e w) c h = let z : x ≡ c = cc in subst (λ (l : List ℕ). PacksWord n l (t .word)) z w
+word-of {n} {t} (found {c = x} e w) c h = let z : x ≡ c = cc in subst (λ (l : List ℕ). PacksWord n l (value (t .word))) z w
 
 -- a word at distance d from a codeword, with bit w made b, where the codeword has o, is at distance e
-module _ (x e : ℕ) (h : x ≤ 2) where
-  stays : e ≤ x → (a : Bool) → leb e 2 ≡ (a || true)
-  stays l a = le-leb e 2 (omega arith) ∙ sym (or-true a)
+module _ (x e : ℕ) (h : x ≤ radius) where
+  stays : e ≤ x → (a : Bool) → leb e radius ≡ (a || true)
+  stays l a = le-leb e radius (omega arith) ∙ sym (or-true a)
 
-  leaves : e ≡ x + 1 → leb e 2 ≡ (ltb x 2 || false)
-  leaves l = go (ltb x 2) refl
+  leaves : e ≡ x + 1 → leb e radius ≡ (ltb x radius || false)
+  leaves l = go (ltb x radius) refl
     where
-      go : (t : Bool) → ltb x 2 ≡ t → leb e 2 ≡ (t || false)
-      go true g = le-leb e 2 (omega (arith, ltb-true x 2 g))
-      go false g = lt-leb e 2 (omega (arith, ltb-false x 2 g))
+      go : (t : Bool) → ltb x radius ≡ t → leb e radius ≡ (t || false)
+      go true g = le-leb e radius (omega (arith, ltb-true x radius g))
+      go false g = lt-leb e radius (omega (arith, ltb-false x radius g))
 
-  moves : {w b o : ℕ} → w < 2 → b < 2 → o < 2 → e + differs w o ≡ x + differs b o → leb e 2 ≡ (ltb x 2 || (eqb w b || not (eqb o w)))
+  moves : {w b o : ℕ} → w < 2 → b < 2 → o < 2 → e + differs w o ≡ x + differs b o → leb e radius ≡ (ltb x radius || (eqb w b || not (eqb o w)))
   moves {w} {b} {o} hw hb ho =
-      bit-ind (λ (w : ℕ). e + differs w o ≡ x + differs b o → leb e 2 ≡ (ltb x 2 || (eqb w b || not (eqb o w))))
-      (bit-ind (λ (b : ℕ). e + differs 0 o ≡ x + differs b o → leb e 2 ≡ (ltb x 2 || (eqb 0 b || not (eqb o 0))))
-      (λ g. stays (omega arith) (ltb x 2))
-      (bit-ind (λ (o : ℕ). e + differs 0 o ≡ x + differs 1 o → leb e 2 ≡ (ltb x 2 || not (eqb o 0)))
-      (λ g. leaves (omega arith)) (λ g. stays (omega arith) (ltb x 2)) ho) hb)
-      (bit-ind (λ (b : ℕ). e + differs 1 o ≡ x + differs b o → leb e 2 ≡ (ltb x 2 || (eqb 1 b || not (eqb o 1))))
-      (bit-ind (λ (o : ℕ). e + differs 1 o ≡ x + differs 0 o → leb e 2 ≡ (ltb x 2 || not (eqb o 1)))
-      (λ g. stays (omega arith) (ltb x 2)) (λ g. leaves (omega arith)) ho)
-      (λ g. stays (omega arith) (ltb x 2)) hb) hw
+      bit-ind (λ (w : ℕ). e + differs w o ≡ x + differs b o → leb e radius ≡ (ltb x radius || (eqb w b || not (eqb o w))))
+      (bit-ind (λ (b : ℕ). e + differs 0 o ≡ x + differs b o → leb e radius ≡ (ltb x radius || (eqb 0 b || not (eqb o 0))))
+      (λ g. stays (omega arith) (ltb x radius))
+      (bit-ind (λ (o : ℕ). e + differs 0 o ≡ x + differs 1 o → leb e radius ≡ (ltb x radius || not (eqb o 0)))
+      (λ g. leaves (omega arith)) (λ g. stays (omega arith) (ltb x radius)) ho) hb)
+      (bit-ind (λ (b : ℕ). e + differs 1 o ≡ x + differs b o → leb e radius ≡ (ltb x radius || (eqb 1 b || not (eqb o 1))))
+      (bit-ind (λ (o : ℕ). e + differs 1 o ≡ x + differs 0 o → leb e radius ≡ (ltb x radius || not (eqb o 1)))
+      (λ g. stays (omega arith) (ltb x radius)) (λ g. leaves (omega arith)) ho)
+      (λ g. stays (omega arith) (ltb x radius)) hb) hw
 
 module _ (d : Degree) (ys rs : List ℕ) (f k : ℕ) (ly : IsLine (size d) ys) (lr : IsLine (size d) rs) (hk : k < size d) where
   -- the filled channel line has the replaced line's bit at k
@@ -66,7 +67,7 @@ module _ (d : Degree) (ys rs : List ℕ) (f k : ℕ) (ly : IsLine (size d) ys) (
   channel-bit s = filled-cell s rs f k (rw (lr .long) hk) ∙ sym (now-cell (bounded-decoder d) ys rs f k ly lr hk s)
 
   -- a filling, and cell k of what it found
-  module _ (s : Side) (h : Half) (H : Halves d ys rs f s h) (own : ℕ) (is-own : (c : List ℕ) → PacksWord (size d) c (h .tried .word) → own ≡ cell c k) where
+  module _ (s : Side) (h : Half) (H : Halves d ys rs f s h) (own : ℕ) (is-own : (c : List ℕ) → PacksWord (size d) c (value (h .tried .word)) → own ≡ cell c k) where
     pub value-at : cond (h .tried .found) own (cell rs k) ≡ answerCell (bounded d) ys rs f k (bounded d (filled s ys f))
     value-at = go (H .tried)
       where
@@ -74,13 +75,13 @@ module _ (d : Degree) (ys rs : List ℕ) (f k : ℕ) (ly : IsLine (size d) ys) (
         go (failed e) = rw e (sym (z-cell (bounded-decoder d) ys rs f k ly lr hk))
         go (found {c} e w) = rw e (is-own c w)
 
-    pub reach-at : (h .tried .found && (ltb (h .far) 2 || (eqb (cell (filled s ys f) k) (cell (filled s (replaced ys rs k) f) k) || not (eqb own (cell (filled s ys f) k)))))
+    pub reach-at : (h .tried .found && (ltb (h .far) radius || (eqb (cell (filled s ys f) k) (cell (filled s (replaced ys rs k) f) k) || not (eqb own (cell (filled s ys f) k)))))
         ≡ reach (bounded d) ys rs f k s
     unfolding reach
     reach-at = go (bounded d (filled s ys f)) refl (H .tried)
       where
         go : (p : Answer) → bounded d (filled s ys f) ≡ p → Answers (size d) p (h .tried)
-            → (h .tried .found && (ltb (h .far) 2 || (eqb (cell (filled s ys f) k) (cell (filled s (replaced ys rs k) f) k) || not (eqb own (cell (filled s ys f) k)))))
+            → (h .tried .found && (ltb (h .far) radius || (eqb (cell (filled s ys f) k) (cell (filled s (replaced ys rs k) f) k) || not (eqb own (cell (filled s ys f) k)))))
             ≡ near p (filled s (replaced ys rs k) f)
         go _ e (failed g) = rw g
         go _ e (found {c} g w) =
@@ -94,41 +95,41 @@ module _ (d : Degree) (ys rs : List ℕ) (f k : ℕ) (ly : IsLine (size d) ys) (
 
   -- ---- the clause
 
-  -- of different cells: 6 erasures after the replacement are 5 before it and one more
-  few-after : few ys ≡ true → cell ys k ≢ cell rs k → few (replaced ys rs k) ≡ not (eqb (erasures ys) 5 && eqb (cell rs k) 2)
+  -- of different cells: too many erasures after the replacement are one less before it and one more
+  few-after : few ys ≡ true → cell ys k ≢ cell rs k → few (replaced ys rs k) ≡ not (eqb (erasures ys + 1) designedDistance && eqb (cell rs k) 2)
   few-after e g = go (erased-or-known (cell rs k)) (erased-or-known (cell ys k))
     where
       c : erasures (replaced ys rs k) + bit (isErased (cell ys k)) ≡ erasures ys + bit (isErased (cell rs k))
       c = changed (bounded-decoder d) ys rs f k ly lr hk
 
-      l : erasures ys < 6
-      l = ltb-true (erasures ys) 6 e
+      l : erasures ys < designedDistance
+      l = ltb-true (erasures ys) designedDistance e
 
-      more : erasures (replaced ys rs k) ≡ erasures ys + 1 → (t : Bool) → eqb (erasures ys) 5 ≡ t → few (replaced ys rs k) ≡ not (t && true)
-      more m true h = le-ltb (erasures (replaced ys rs k)) 6 (omega (arith, eqb-true (erasures ys) 5 h))
-      more m false h = lt-ltb (erasures (replaced ys rs k)) 6 (omega (arith, l, eqb-false (erasures ys) 5 h))
+      more : erasures (replaced ys rs k) ≡ erasures ys + 1 → (t : Bool) → eqb (erasures ys + 1) designedDistance ≡ t → few (replaced ys rs k) ≡ not (t && true)
+      more m true h = le-ltb (erasures (replaced ys rs k)) designedDistance (omega (arith, eqb-true (erasures ys + 1) designedDistance h))
+      more m false h = lt-ltb (erasures (replaced ys rs k)) designedDistance (omega (arith, l, eqb-false (erasures ys + 1) designedDistance h))
 
       go : ((cell rs k ≡ 2) × (bit (isErased (cell rs k)) ≡ 1)) ⊎ ((cell rs k ≢ 2) × (bit (isErased (cell rs k)) ≡ 0))
           → ((cell ys k ≡ 2) × (bit (isErased (cell ys k)) ≡ 1)) ⊎ ((cell ys k ≢ 2) × (bit (isErased (cell ys k)) ≡ 0))
-          → few (replaced ys rs k) ≡ not (eqb (erasures ys) 5 && eqb (cell rs k) 2)
+          → few (replaced ys rs k) ≡ not (eqb (erasures ys + 1) designedDistance && eqb (cell rs k) 2)
       go (inl q) (inl p) = absurd (g (p .0 ∙ sym (q .0)))
-      go (inl q) (inr p) = rw (eq-eqb (cell rs k) 2 (q .0)) (more (omega (arith, c)) (eqb (erasures ys) 5) refl)
-      go (inr q) p = rw (ne-eqb (cell rs k) 2 (q .0), and-false (eqb (erasures ys) 5)) (lt-ltb (erasures (replaced ys rs k)) 6 (omega (arith, c, l)))
+      go (inl q) (inr p) = rw (eq-eqb (cell rs k) 2 (q .0)) (more (omega (arith, c)) (eqb (erasures ys + 1) designedDistance) refl)
+      go (inr q) p = rw (ne-eqb (cell rs k) 2 (q .0), and-false (eqb (erasures ys + 1) designedDistance)) (lt-ltb (erasures (replaced ys rs k)) designedDistance (omega (arith, c, l)))
 
   pub equal-clause : few ys ≡ true → cell ys k ≡ cell rs k → Equal ≡ clause (bounded d) ys rs f k
   unfolding clause
   equal-clause e g = rw (e, eq-eqb (cell ys k) (cell rs k) g)
 
   module _ (e : few ys ≡ true) (g : cell ys k ≢ cell rs k) where
-    pub crowded-clause : (eqb (erasures ys) 5 && eqb (cell rs k) 2) ≡ true → Crowded ≡ clause (bounded d) ys rs f k
+    pub crowded-clause : (eqb (erasures ys + 1) designedDistance && eqb (cell rs k) 2) ≡ true → Crowded ≡ clause (bounded d) ys rs f k
     unfolding clause
     crowded-clause h = rw (e, ne-eqb (cell ys k) (cell rs k) g, few-after e g, h)
 
-    pub reach-clause : (eqb (erasures ys) 5 && eqb (cell rs k) 2) ≡ false → byReach (bounded d) ys rs f k ≡ clause (bounded d) ys rs f k
+    pub reach-clause : (eqb (erasures ys + 1) designedDistance && eqb (cell rs k) 2) ≡ false → byReach (bounded d) ys rs f k ≡ clause (bounded d) ys rs f k
     unfolding clause
     reach-clause h = rw (e, ne-eqb (cell ys k) (cell rs k) g, few-after e g, h)
 
-  pub many-clause : few ys ≡ false → (t : Bool) → (eqb (erasures ys) 6 && (eqb (cell ys k) 2 && not (eqb (cell rs k) 2))) ≡ t
+  pub many-clause : few ys ≡ false → (t : Bool) → (eqb (erasures ys) designedDistance && (eqb (cell ys k) 2 && not (eqb (cell rs k) 2))) ≡ t
       → cond t Afresh Channel ≡ clause (bounded d) ys rs f k
   unfolding clause
   many-clause e t h = rw (e, h)

@@ -18,10 +18,11 @@ use Rattle.field.specs.Field.{power}
 use Rattle.laws.specs.Digits.{sumOver, ones, digits}
 use Rattle.field.specs.Checks.{IsSyndrome}
 use Rattle.line.specs.declared.packed.Line.{Line}
+use Rattle.line.specs.Word.{value, width}
 use Rattle.line.specs.Cells.{cell, IsLine, isOne}
 use Rattle.line.specs.Packed.{packBy, Packs, PacksWord}
 use Rattle.line.proofs.CellLaws.{Bits}
-use Rattle.line.proofs.Packing.{cell-of-line}
+use Rattle.line.proofs.Packing.{cell-of-line, bit-of-word}
 
 -- ---- a word
 
@@ -50,10 +51,15 @@ word-sums {d} p q =
       parity = q .parity ∙ ap (λ (l : List ℕ). ones l % 2) (word-digits (size d) (le-refl (size d)) p);
     }
 
+-- a packed word says what its cells are
+pub word-packs-one : {n : ℕ} {cs ds : List ℕ} {v w : ℕ} → v ≡ w → PacksWord n cs v → PacksWord n ds w → cs ≡ ds
+word-packs-one {cs} {ds} e p q =
+    ext-getD 0 cs ds (p .cells .long ∙ sym (q .cells .long)) (λ k h. sym (bit-of-word k p) ∙ rw e (bit-of-word k q))
+
 -- ---- n
 
 -- a line has room in a machine word
-pub size-room : (d : Degree) → size d ≤ 64
+pub size-room : (d : Degree) → size d ≤ width
 size-room Four = omega arith
 size-room Six = omega arith
 
@@ -63,7 +69,7 @@ size-eights Four = refl
 size-eights Six = refl
 
 -- what packing a row asks for
-pub packable : (d : Degree) {l : List ℕ} → IsLine (size d) l → (length l ≤ 64) × (length l % 8 ≡ 0) × ((i : ℕ) → cell l i < 3)
+pub packable : (d : Degree) {l : List ℕ} → IsLine (size d) l → (length l ≤ width) × (length l % 8 ≡ 0) × ((i : ℕ) → cell l i < 3)
 packable d h = (rw (h .long) (size-room d), rw (h .long) (size-eights d), h .small)
 
 -- ---- a line
@@ -77,11 +83,11 @@ packs-one {cs} {ds} p q =
     ext-getD 0 cs ds (p .cells .long ∙ sym (q .cells .long)) (λ k h. sym (cell-of-line k p) ∙ cell-of-line k q)
 
 -- two lines with no differing cell pack the same list
-pub none-differing : {n : ℕ} {cs ds : List ℕ} {a b : Line} {r : ℕ} → r ≡ bitOr (bitXor (a .ones) (b .ones)) (bitXor (a .erased) (b .erased)) → r ≡ 0
+pub none-differing : {n : ℕ} {cs ds : List ℕ} {a b : Line} {r : ℕ} → r ≡ bitOr (bitXor (value (a .ones)) (value (b .ones))) (bitXor (value (a .erased)) (value (b .erased))) → r ≡ 0
     → Packs n cs a → Packs n ds b → cs ≡ ds
 none-differing {a} {b} e z p q =
     let none = sym e ∙ z in
-    let x = bitXor (a .ones) (b .ones) in
-    let y = bitXor (a .erased) (b .erased) in
+    let x = bitXor (value (a .ones)) (value (b .ones)) in
+    let y = bitXor (value (a .erased)) (value (b .erased)) in
     packs-one p
     (record { room = q .room; cells = q .cells; ones = xor-eq (or-first x y none) ∙ q .ones; erased = xor-eq (or-second x y none) ∙ q .erased })

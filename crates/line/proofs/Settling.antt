@@ -19,14 +19,16 @@ use Rattle.line.specs.declared.clause.Clause.the-variants.{Equal, Crowde
 use Rattle.line.specs.declared.packed.Line.{Line}
 use Rattle.line.specs.declared.bounded.Tried.{Tried}
 use Rattle.line.specs.declared.clause.Base.{Base}
-use Rattle.line.specs.Cells.{cell, isErased, erasures, few, filled}
+use Rattle.line.specs.Cells.{cell, isErased, erasures, few, filled, designedDistance}
 use Rattle.line.specs.Bounded.{Answer, Found, Failed, bounded}
 use Rattle.line.specs.Decoding.{replaced, decoded, message}
 use Rattle.line.specs.Clauses.{ifNear, reach, cost, clause, settled}
-use Rattle.line.specs.Packed.{Packs, PacksWord}
+use Rattle.line.specs.Packed.{Packs}
+use Rattle.line.specs.Word.{value}
 use Rattle.line.specs.Working.{Answers, failed, found}
 use Rattle.line.specs.Fillings.{Based, triedOf, start}
 use Rattle.line.proofs.CellLaws.{erased-or-known}
+use Rattle.line.proofs.Packing.{packed-as}
 use Rattle.line.proofs.Distances.{bounded-decoder}
 use Rattle.line.proofs.ClauseLaws.{changed, clause-settles}
 use Rattle.line.proofs.CountLaws.{few-cost}
@@ -34,13 +36,13 @@ use Rattle.line.proofs.Reaching.{many-clause}
 
 -- ---- an answer, where it is in reach
 
-near-answer : {n : ℕ} {p : Answer} {t : Tried} (v : Tried) (x : Bool) → Answers n p t → v .found ≡ (t .found && x) → v .word ≡ t .word → Answers n (cond x p Failed) v
+near-answer : {n : ℕ} {p : Answer} {t : Tried} (v : Tried) (x : Bool) → Answers n p t → v .found ≡ (t .found && x) → value (v .word) ≡ value (t .word) → Answers n (cond x p Failed) v
 near-answer v true (failed e) g h = failed (g ∙ rw e)
-near-answer v true (found {c} e w) g h = found {c = c} {t = v} (g ∙ rw e) (subst (PacksWord _ c) (sym h) w)
+near-answer v true (found {c} e w) g h = found {c = c} {t = v} (g ∙ rw e) (packed-as h w)
 near-answer {t} v false a g h = failed (g ∙ and-false (t .found))
 
 pub near-at : (d : Degree) (ys rs : List ℕ) (f k : ℕ) (s : Side) (t v : Tried) (x : Bool) → Answers (size d) (bounded d (filled s ys f)) t → x ≡ reach (bounded d) ys rs f k s
-    → v .found ≡ (t .found && x) → v .word ≡ t .word → Answers (size d) (ifNear (bounded d (filled s ys f)) (filled s (replaced ys rs k) f)) v
+    → v .found ≡ (t .found && x) → value (v .word) ≡ value (t .word) → Answers (size d) (ifNear (bounded d (filled s ys f)) (filled s (replaced ys rs k) f)) v
 unfolding reach
 near-at d ys rs f k s t v x a e g h = rw (← e) (near-answer v x a g h)
 
@@ -58,7 +60,14 @@ halving (Open s) = true
 halving Afresh = false
 halving Channel = false
 
-module _ {d : Degree} {ys rs : List ℕ} {f k : ℕ} {y r : Line} {b : Base} (p : Packs (size d) ys y) (q : Packs (size d) rs r) (hk : k < size d) (B : Based d ys rs f b) where
+module _ {d : Degree} {ys rs : List ℕ} {f k : ℕ} {b : Base} (hk : k < size d) (B : Based d ys rs f b) where
+  -- the incoming line and the channel line, packed
+  p : Packs (size d) ys (b .incoming)
+  p = B .incoming
+
+  q : Packs (size d) rs (b .channel)
+  q = B .channel
+
   pub few-of : {c : Clause} → c ≡ clause (bounded d) ys rs f k → halving c ≡ true → few ys ≡ true
   few-of {c} e h = go (few ys) refl
     where
@@ -69,7 +78,7 @@ module _ {d : Degree} {ys rs : List ℕ} {f k : ℕ} {y r : Line} {b : Base} (p 
       go : (t : Bool) → few ys ≡ t → t ≡ true
       go true g = refl
       go false g =
-          let t = eqb (erasures ys) 6 && (eqb (cell ys k) 2 && not (eqb (cell rs k) 2)) in
+          let t = eqb (erasures ys) designedDistance && (eqb (cell ys k) 2 && not (eqb (cell rs k) 2)) in
           absurd (true≢false (sym h ∙ ap halving (e ∙ sym (many-clause d ys rs f k (p .cells) (q .cells) hk g t refl)) ∙ none t))
 
   pub equal-cell : {v : ℕ} → Equal ≡ clause (bounded d) ys rs f k → v ≡ cell (start d ys rs f) k → v ≡ settled (bounded d) ys rs f k Equal
@@ -90,17 +99,17 @@ module _ {d : Degree} {ys rs : List ℕ} {f k : ℕ} {y r : Line} {b : Base} (p 
       two : cost (clause (bounded d) ys rs f k) ≡ 2
       two = sym (ap cost e)
 
-      five : erasures ys ≡ 6 → ((cell ys k ≡ 2) × (bit (isErased (cell ys k)) ≡ 1)) ⊎ ((cell ys k ≢ 2) × (bit (isErased (cell ys k)) ≡ 0))
+      five : erasures ys ≡ designedDistance → ((cell ys k ≡ 2) × (bit (isErased (cell ys k)) ≡ 1)) ⊎ ((cell ys k ≢ 2) × (bit (isErased (cell ys k)) ≡ 0))
           → ((cell rs k ≡ 2) × (bit (isErased (cell rs k)) ≡ 1)) ⊎ ((cell rs k ≢ 2) × (bit (isErased (cell rs k)) ≡ 0))
           → (x : Bool) → eqb (cell ys k) 2 ≡ x → (z : Bool) → eqb (cell rs k) 2 ≡ z → (x && not z) ≡ true → few (replaced ys rs k) ≡ true
-      five u (inl a) (inr c) x ex z ez h = lt-ltb (erasures (replaced ys rs k)) 6 (omega (arith, changed (bounded-decoder d) ys rs f k (p .cells) (q .cells) hk))
+      five u (inl a) (inr c) x ex z ez h = lt-ltb (erasures (replaced ys rs k)) designedDistance (omega (arith, changed (bounded-decoder d) ys rs f k (p .cells) (q .cells) hk))
       five u (inl a) (inl c) x ex true ez h = absurd (true≢false (sym h ∙ and-false x))
       five u (inl a) (inl c) x ex false ez h = absurd (eqb-false (cell rs k) 2 ez (c .0))
       five u (inr a) c true ex z ez h = absurd (a .0 (eqb-true (cell ys k) 2 ex))
       five u (inr a) c false ex z ez h = absurd (true≢false (sym h))
 
-      test : (x : Bool) → eqb (erasures ys) 6 ≡ x → (z : Bool) → (eqb (cell ys k) 2 && not (eqb (cell rs k) 2)) ≡ z → cost (cond (x && z) Afresh Channel) ≡ 2 → few (replaced ys rs k) ≡ true
-      test true ex true ez h = five (eqb-true (erasures ys) 6 ex) (erased-or-known (cell ys k)) (erased-or-known (cell rs k)) _ refl _ refl ez
+      test : (x : Bool) → eqb (erasures ys) designedDistance ≡ x → (z : Bool) → (eqb (cell ys k) 2 && not (eqb (cell rs k) 2)) ≡ z → cost (cond (x && z) Afresh Channel) ≡ 2 → few (replaced ys rs k) ≡ true
+      test true ex true ez h = five (eqb-true (erasures ys) designedDistance ex) (erased-or-known (cell ys k)) (erased-or-known (cell rs k)) _ refl _ refl ez
       test true ex false ez h = absurd (omega arith)
       test false ex z ez h = absurd (omega arith)
 

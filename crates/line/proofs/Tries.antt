@@ -13,7 +13,6 @@ use Rattle.field.specs.declared.locate.Positions.the-variants.{Zero, One, Two, 
 use Rattle.field.specs.declared.syndrome.Syndrome.{Syndrome}
 use Rattle.degree.specs.Degree.{size, order}
 use Rattle.field.specs.Syndrome.{s1, s3, parity}
-use Rattle.laws.specs.Digits.{digits}
 use Rattle.field.specs.Checks.{IsSyndrome}
 use Rattle.field.specs.Fitting.{Fits}
 use Rattle.field.specs.Positions.{located}
@@ -23,9 +22,9 @@ use Rattle.line.specs.declared.bounded.Tried.{Tried}
 use Rattle.line.specs.Cells.{flip}
 use Rattle.line.specs.Bounded.{bounded}
 use Rattle.line.specs.Packed.{PacksWord}
+use Rattle.line.specs.Word.{value}
 use Rattle.line.specs.Working.{Answers, failed, found, mended, Below, usable}
 use Rattle.line.proofs.Mending.{answer-mends}
-use Rattle.line.proofs.RowLaws.{word-sums}
 
 pub last-below : (d : Degree) → order d < size d
 last-below d = omega (arith, primitive d .more)
@@ -53,16 +52,16 @@ usable-below d a b even p e = subst (Below (size d)) (sym e) (go even (located d
 -- ---- a word mended, for each kind of positions
 
 module _ (d : Degree) (ws : List ℕ) {t : Tried} where
-  pub zero-mended : (even : Bool) → t .found ≡ true → PacksWord (size d) (cond (not even) (flip (order d) ws) ws) (t .word) → Answers (size d) (mended d ws Zero even) t
+  pub zero-mended : (even : Bool) → t .found ≡ true → PacksWord (size d) (cond (not even) (flip (order d) ws) ws) (value (t .word)) → Answers (size d) (mended d ws Zero even) t
   zero-mended true e p = found e p
   zero-mended false e p = found e p
 
-  pub one-mended : (i : ℕ) (even : Bool) → t .found ≡ true → PacksWord (size d) (flip i (cond even (flip (order d) ws) ws)) (t .word)
+  pub one-mended : (i : ℕ) (even : Bool) → t .found ≡ true → PacksWord (size d) (flip i (cond even (flip (order d) ws) ws)) (value (t .word))
       → Answers (size d) (mended d ws (One i) even) t
   one-mended i true e p = found e p
   one-mended i false e p = found e p
 
-  pub two-mended : (i j : ℕ) (even : Bool) → t .found ≡ even → PacksWord (size d) (flip i (flip j ws)) (t .word) → Answers (size d) (mended d ws (Two i j) even) t
+  pub two-mended : (i j : ℕ) (even : Bool) → t .found ≡ even → PacksWord (size d) (flip i (flip j ws)) (value (t .word)) → Answers (size d) (mended d ws (Two i j) even) t
   two-mended i j true e p = found e p
   two-mended i j false e p = failed e
 
@@ -76,10 +75,9 @@ usable-mended d ws false (One i) = refl
 usable-mended d ws false (Two i j) = refl
 usable-mended d ws false Unfit = refl
 
-pub tried-bounded : (d : Degree) {ws : List ℕ} {w : ℕ} {t : Tried} {s : Syndrome} {p : Positions} → PacksWord (size d) ws w → IsSyndrome d (digits 64 w) s
+pub tried-bounded : (d : Degree) {ws : List ℕ} {w : ℕ} {t : Tried} {s : Syndrome} {p : Positions} → PacksWord (size d) ws w → IsSyndrome d ws s
     → p ≡ usable (eqb (s .parity) 0) (located d (s .s1) (s .s3)) → Answers (size d) (mended d ws p (eqb (s .parity) 0)) t → Answers (size d) (bounded d ws) t
-tried-bounded d {ws} {t} {s} {p} q c e a =
-    let sums : IsSyndrome d ws s = word-sums q c in
+tried-bounded d {ws} {t} {s} {p} q sums e a =
     let even = eqb (s .parity) 0 in
     let l : located d (s .s1) (s .s3) ≡ located d (s1 d ws) (s3 d ws) = ap₂ (located d) (sums .s1) (sums .s3) in
     let m : mended d ws p even ≡ mended d ws (located d (s1 d ws) (s3 d ws)) even =

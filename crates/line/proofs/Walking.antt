@@ -1,7 +1,7 @@
 -- The walk over the cells of a mask, from the base line to all messages and the count.
 -- Assumes nothing.
 use mathlib.Core.Path.{_≡_, refl, sym, ap, _∙_, subst}
-use mathlib.Core.Bool.{Bool, true, false}
+use mathlib.Core.Bool.{Bool, true, false, not}
 use mathlib.Core.Logic.{_≢_}
 use mathlib.Core.List.{List}
 use Prim.Native.Nat.{ℕ, _+_, _-_, _*_, _/_, _%_, _^_, _≤_, _<_}
@@ -13,7 +13,7 @@ use lib.Count.{trailingZeros}
 use lib.Dec.{eqb}
 use lib.ListN.{length, set}
 use lib.Seq.{getD-set-same, getD-set-other, ext-getD}
-use borrow.Author.Tests.{ne-eqb}
+use borrow.Author.Tests.{ne-eqb, eqb-true, eqb-false, not-true, not-false}
 use Rattle.laws.specs.Bits.{bitAt}
 use Rattle.laws.specs.Sums.{sumTo}
 use Rattle.laws.proofs.Masks.{lowest, lowest-below, sumMask, mask-turn, mask-all, mask-none}
@@ -27,6 +27,7 @@ use Rattle.line.specs.Decoding.{listTo, message, messages}
 use Rattle.line.specs.Clauses.{cost, clause, count}
 use Rattle.line.specs.Packed.{Packs}
 use Rattle.line.specs.Fillings.{Based, Masks, start}
+use Rattle.line.specs.Word.{width}
 use Rattle.line.proofs.LineLaw.{listTo-is, listTo-cell, messages-line}
 
 -- a message is a cell
@@ -64,13 +65,13 @@ module _ (d : Degree) (ys rs : List ℕ) (f : ℕ) where
               rw (p .cells .long, B .count, e) refl;
         }
 
-    pub walk-turn : {l z : Line} {c t v e : ℕ} → t ≢ 0 → t < 2 ^ 64 → Walk l c t
-        → (trailingZeros 64 t < size d → (v ≡ message (bounded d) ys rs f (trailingZeros 64 t)) × (e ≡ c + costs (trailingZeros 64 t)))
-        → ((cs : List ℕ) → Packs (size d) cs l → trailingZeros 64 t < size d → v < 3 → Packs (size d) (set cs (trailingZeros 64 t) v) z)
+    turn : {l z : Line} {c t v e : ℕ} → t ≢ 0 → t < 2 ^ width → Walk l c t
+        → (trailingZeros width t < size d → (v ≡ message (bounded d) ys rs f (trailingZeros width t)) × (e ≡ c + costs (trailingZeros width t)))
+        → ((cs : List ℕ) → Packs (size d) cs l → trailingZeros width t < size d → v < 3 → Packs (size d) (set cs (trailingZeros width t) v) z)
         → Walk z e (bitAnd t (t - 1))
-    walk-turn {l} {z} {c} {t} {v} {e} g h W found put =
-        let k = trailingZeros 64 t in
-        let hk : k < size d = lowest-below 64 (size d) t g h (W .small) in
+    turn {l} {z} {c} {t} {v} {e} g h W found put =
+        let k = trailingZeros width t in
+        let hk : k < size d = lowest-below width (size d) t g h (W .small) in
         let s = found hk in
         let lt : v < 3 = rw (s .0) (message-lt d f k hk (p .cells) (q .cells)) in
         record {
@@ -78,16 +79,23 @@ module _ (d : Degree) (ys rs : List ℕ) (f : ℕ) where
           cells = set (W .cells) k v;
           packs = put (W .cells) (W .packs) hk lt;
           done = λ j hj e. at j hj e (ℕ-discrete j k) hk (s .0);
-          sum = (let e = mask-turn 64 t costs (size d) g h hk in omega (arith, W .sum));
+          sum = (let e = mask-turn width t costs (size d) g h hk in omega (arith, W .sum));
         }
       where
-        at : (j : ℕ) → j < size d → bitAt (bitAnd t (t - 1)) j ≡ 0 → Dec (j ≡ trailingZeros 64 t) → trailingZeros 64 t < size d → v ≡ message (bounded d) ys rs f (trailingZeros 64 t)
-            → cell (set (W .cells) (trailingZeros 64 t) v) j ≡ message (bounded d) ys rs f j
+        at : (j : ℕ) → j < size d → bitAt (bitAnd t (t - 1)) j ≡ 0 → Dec (j ≡ trailingZeros width t) → trailingZeros width t < size d → v ≡ message (bounded d) ys rs f (trailingZeros width t)
+            → cell (set (W .cells) (trailingZeros width t) v) j ≡ message (bounded d) ys rs f j
         at j hj e (yes i) hk s =
-            rw i (getD-set-same (W .cells) (trailingZeros 64 t) v 0 (rw (W .packs .cells .long) hk) ∙ s)
+            rw i (getD-set-same (W .cells) (trailingZeros width t) v 0 (rw (W .packs .cells .long) hk) ∙ s)
         at j hj e (no i) hk s =
-            getD-set-other (W .cells) (trailingZeros 64 t) j v 0 i
-            ∙ W .done j hj (lowest 64 t g h .1 j ∙ rw (e, ne-eqb j (trailingZeros 64 t) i))
+            getD-set-other (W .cells) (trailingZeros width t) j v 0 i
+            ∙ W .done j hj (lowest width t g h .1 j ∙ rw (e, ne-eqb j (trailingZeros width t) i))
+
+    -- the lowest cell k of the mask t settled, and u the rest of the mask
+    pub walk-turn : {l z : Line} {c t u k v e : ℕ} → t ≢ 0 → t < 2 ^ width → k ≡ trailingZeros width t → u ≡ bitAnd t (t - 1) → Walk l c t
+        → (k < size d → (v ≡ message (bounded d) ys rs f k) × (e ≡ c + costs k))
+        → ((cs : List ℕ) → Packs (size d) cs l → k < size d → v < 3 → Packs (size d) (set cs k v) z)
+        → Walk z e u
+    walk-turn g h ek eu W found put = rw eu (turn g h W (rw ek at found) (rw ek at put))
 
     pub walk-end : {l : Line} {c : ℕ} → Walk l c 0 → Packs (size d) (messages (bounded d) ys rs f) l × (c ≡ count (bounded d) ys rs f)
     unfolding messages
@@ -96,3 +104,17 @@ module _ (d : Degree) (ys rs : List ℕ) (f : ℕ) where
         let e : W .cells ≡ listTo g (length ys) =
         rw (p .cells .long) (sym (listTo-is g (size d) (W .cells) (W .packs .cells .long) (λ k h. sym (W .done k h (rw zero-div))))) in
         (subst (λ (cs : List ℕ). Packs (size d) cs l) e (W .packs), let z = mask-none costs (size d) in omega (arith, W .sum))
+
+-- ---- the mask as a word
+
+-- the test that some cell is left, and that none is
+pub some-left : {v : ℕ} {t : Bool} → t ≡ eqb v 0 → not t ≡ true → v ≢ 0
+some-left {v} {t} e h = eqb-false v 0 (sym e ∙ not-true t h)
+
+pub none-left : {v : ℕ} {t : Bool} → t ≡ eqb v 0 → not t ≡ false → v ≡ 0
+none-left {v} {t} e h = eqb-true v 0 (sym e ∙ not-false t h)
+
+-- two decodings a cell at most, for the cell taken and those that are left
+pub mask-next : (c e : ℕ) {t u k : ℕ} → t < 2 ^ width → t ≢ 0 → k < width → k ≡ trailingZeros width t → u ≡ bitAnd t (t - 1) → e ≤ c + 2
+    → c + 2 * sumMask t (λ i. 1) width ≤ 130 → e + 2 * sumMask u (λ i. 1) width ≤ 130
+mask-next c e {t} h z hk ek eu l b = rw eu (omega (arith, mask-turn width t (λ i. 1) width z h (rw (← ek) hk)))

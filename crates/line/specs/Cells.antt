@@ -38,9 +38,16 @@ unfoldable pub erasures : List ℕ → ℕ
 erasures [] = 0
 erasures (c ∷ cs) = bit (isErased c) + erasures cs
 
--- fewer than 6 unsure cells
+-- the designed distance, with which line decoding fails, and the radius of bounded-distance decoding
+abbrev pub designedDistance : ℕ
+designedDistance = 6
+
+abbrev pub radius : ℕ
+radius = 2
+
+-- fewer unsure cells than the designed distance
 abbrev pub few : List ℕ → Bool
-few y = ltb (erasures y) 6
+few y = ltb (erasures y) designedDistance
 
 -- 1 for a known cell that is not the word's
 abbrev pub differs : ℕ → ℕ → ℕ

@@ -10,7 +10,7 @@ use Rattle.line.specs.declared.side.Side.{Side}
 use Rattle.line.specs.declared.side.Side.the-variants.{One, Two}
 use Rattle.line.specs.declared.clause.Clause.{Clause}
 use Rattle.line.specs.declared.clause.Clause.the-variants.{Equal, Crowded, Both, Neither, Agreeing, Unchanged, Open, Afresh, Channel}
-use Rattle.line.specs.Cells.{cell, isErased, erasures, few, distance, filled}
+use Rattle.line.specs.Cells.{cell, isErased, erasures, few, distance, filled, designedDistance, radius}
 use Rattle.line.specs.Bounded.{Answer, Found, Failed, orBack}
 use Rattle.line.specs.Decoding.{choice, replaced, decoded}
 
@@ -33,7 +33,7 @@ other Two = One
 -- what was found is a codeword within 2 of the word
 abbrev pub near : Answer → List ℕ → Bool
 near Failed w = false
-near (Found c) w = leb (distance w c) 2
+near (Found c) w = leb (distance w c) radius
 
 -- what was found, where it is near
 abbrev pub ifNear : Answer → List ℕ → Answer
@@ -92,7 +92,7 @@ module _ (dec : List ℕ → Answer) where
         cond (few y)
         (cond (eqb (cell y k) (cell r k)) Equal
         (cond (few (replaced y r k)) byReach Crowded))
-        (cond (eqb (erasures y) 6 && (isErased (cell y k) && not (isErased (cell r k)))) Afresh Channel)
+        (cond (eqb (erasures y) designedDistance && (isErased (cell y k) && not (isErased (cell r k)))) Afresh Channel)
 
     -- the choice at an open cell: filling s is decoded once more, what the other one found counts where it is in reach
     abbrev pub openChoice : Side → Answer

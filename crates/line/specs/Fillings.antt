@@ -14,18 +14,19 @@ use Rattle.line.specs.declared.bounded.Tried.{Tried}
 use Rattle.line.specs.declared.clause.Half.{Half}
 use Rattle.line.specs.declared.clause.Seen.{Seen}
 use Rattle.line.specs.declared.clause.Base.{Base}
-use Rattle.line.specs.Cells.{cell, erasures, few, distance, filled}
+use Rattle.line.specs.Cells.{cell, erasures, few, distance, filled, radius}
 use Rattle.line.specs.Bounded.{Found, bounded}
 use Rattle.line.specs.Decoding.{decoded, message}
 use Rattle.line.specs.Clauses.{reach, same, answerCell, after, cost, clause}
 use Rattle.line.specs.Packed.{Packs, PacksWord}
+use Rattle.line.specs.Word.{value}
 use Rattle.line.specs.Working.{Answers}
 
 module _ (d : Degree) (ys rs : List ℕ) (f : ℕ) where
   -- a filling of the incoming line, and of the channel line by the same bits; what it gave, and how far that is
   pub record Halves (s : Side) (h : Half) : Type 0 where
-    pub before : PacksWord (size d) (filled s ys f) (h .before)
-    pub channel : PacksWord (size d) (filled s rs f) (h .channel)
+    pub before : PacksWord (size d) (filled s ys f) (value (h .before))
+    pub channel : PacksWord (size d) (filled s rs f) (value (h .channel))
     pub tried : Answers (size d) (bounded d (filled s ys f)) (h .tried)
     pub far : (c : List ℕ) → bounded d (filled s ys f) ≡ Found c → h .far ≡ distance (filled s ys f) c
 
@@ -40,8 +41,11 @@ module _ (d : Degree) (ys rs : List ℕ) (f : ℕ) where
   unfoldable pub start : List ℕ
   start = cond (few ys) (decoded (bounded d) ys f) rs
 
-  -- what is known of a line before its cells are settled; of its fillings only with fewer than 6 erasures
+  -- what is known of a line before its cells are settled; of its fillings only where it has few erasures
   pub record Based (b : Base) : Type 0 where
+    pub incoming : Packs (size d) ys (b .incoming)
+    pub channel : Packs (size d) rs (b .channel)
+    pub filling : value (b .filling) ≡ f
     pub erased : b .erased ≡ erasures ys
     pub own : Packs (size d) start (b .own)
     pub one : few ys ≡ true → Halves side.One (b .one)
@@ -53,14 +57,16 @@ module _ (d : Degree) (ys rs : List ℕ) (f : ℕ) where
     pub small : m < 2 ^ size d
     pub rest : (k : ℕ) → k < size d → bitAt m k ≡ 0 → (cell start k ≡ message (bounded d) ys rs f k) × (cost (clause (bounded d) ys rs f k) ≡ 0)
 
--- a codeword that was found stays in reach at cell k: it lies nearer than 2, or the filled bit is unchanged, or the change does
+-- a codeword that was found stays in reach at cell k: it lies within the radius, or the filled bit is unchanged, or the change does
 -- not lead away from it
 abbrev pub stays : Half → ℕ → Bool
-stays h k = ltb (h .far) 2 || (eqb (bitAt (h .before) k) (bitAt (h .channel) k) || not (eqb (bitAt (h .tried .word) k) (bitAt (h .before) k)))
+stays h k =
+    let before = bitAt (value (h .before)) k in
+    ltb (h .far) radius || (eqb before (bitAt (value (h .channel)) k) || not (eqb (bitAt (value (h .tried .word)) k) before))
 
 -- both fillings decoded to one codeword
 abbrev pub oneCodeword : Base → Bool
-oneCodeword b = (b .one .tried .found && b .two .tried .found) && eqb (b .one .tried .word) (b .two .tried .word)
+oneCodeword b = (b .one .tried .found && b .two .tried .found) && eqb (value (b .one .tried .word)) (value (b .two .tried .word))
 
 -- the answer of a filling
 abbrev pub triedOf : Base → Side → Tried

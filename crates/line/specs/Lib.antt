@@ -1,4 +1,5 @@
 pub mod Cells
+pub mod Word
 pub mod Packed
 pub mod Rows
 pub mod Tables

@@ -1,7 +1,7 @@
 -- What is said of a lent row that is replaced by its messages. It serves the crate above; no contract of an entry names this.
 use mathlib.Core.Path.{_≡_}
 use mathlib.Core.List.{List}
-use Prim.Native.Nat.{ℕ}
+use Prim.Native.Nat.{ℕ, _≤_}
 use lib.ListN.{length}
 use Rattle.degree.specs.declared.Degree.{Degree}
 use Rattle.degree.specs.Degree.{size}
@@ -18,3 +18,4 @@ pub record SentRow (d : Degree) (old channel : Line) (filling : ℕ) (before aft
   pub cells : (rs : List ℕ) → Packs (size d) before old → Packs (size d) rs channel → after ≡ messages (bounded d) before rs filling
   pub line : (rs : List ℕ) → Packs (size d) before old → Packs (size d) rs channel → Packs (size d) (messages (bounded d) before rs filling) (s .line)
   pub count : (rs : List ℕ) → Packs (size d) before old → Packs (size d) rs channel → s .count ≡ count (bounded d) before rs filling
+  pub most : s .count ≤ 130

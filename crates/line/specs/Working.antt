@@ -13,6 +13,7 @@ use Rattle.line.specs.declared.bounded.Tried.{Tried}
 use Rattle.line.specs.Bounded.{Answer, Found, Failed}
 use Rattle.line.specs.Cells.{flip}
 use Rattle.line.specs.Packed.{PacksWord}
+use Rattle.line.specs.Word.{value}
 
 -- what is found for a word, from the error positions and whether its ones are even in number: the cells at the positions are
 -- flipped, and the last cell too where the ones would stay odd in number, as long as that makes at most two
@@ -40,4 +41,4 @@ Below n Unfit = Unit {0}
 -- what was tried gave this answer
 pub data Answers (n : ℕ) : Answer → Tried → Type 0 where
   failed : {t : Tried} → t .found ≡ false → Answers n Failed t
-  found : {c : List ℕ} {t : Tried} → t .found ≡ true → PacksWord n c (t .word) → Answers n (Found c) t
+  found : {c : List ℕ} {t : Tried} → t .found ≡ true → PacksWord n c (value (t .word)) → Answers n (Found c) t

@@ -1,13 +1,14 @@
 // Bounded-distance decoding of a packed word.
-use crate::packed::flip_bit;
 use crate::tables::LineTables;
+use crate::word::Word;
+use crate::word::check_sums;
+use crate::word::flip_bit;
 use degree::Degree;
 use degree::order_of;
 use field::locate::Positions;
 use field::locate::locate;
 use field::locate::locate_single;
 use field::syndrome::Syndrome;
-use field::syndrome::syndrome_of;
 ghost use mathlib.Core.Path.{_≡_};
 ghost use mathlib.Core.Bool.{cond};
 ghost use mathlib.Core.List.{List};
@@ -18,28 +19,30 @@ ghost use Rattle.line.specs.Tables.{TablesOf};
 ghost use Rattle.line.specs.Cells.{flip};
 ghost use Rattle.line.specs.Bounded.{bounded};
 ghost use Rattle.line.specs.Packed.{PacksWord};
+ghost use Rattle.line.specs.Word.{value, width};
 ghost use lib.Dec.{eqb};
 ghost use Rattle.line.specs.Working.{Answers, Below, mended, usable};
 
-// What bounded-distance decoding of a word found (the word itself where it failed), and the decodings counted so far.
+// What bounded-distance decoding of a word found, if it found anything, and the decodings counted so far. Where it failed, the
+// word says nothing.
 pub struct Tried {
     pub found: bool,
-    pub word: u64,
+    pub word: Word,
     pub count: u64,
 }
 
-fn flip_where(yes: bool, word: u64, k: usize) -> u64
-    requires { ⌜ k < 64 ⌝ }
-    ensures { λ r. ⌜ ((n : ℕ) (ws : List ℕ) → PacksWord n ws word → k < n → PacksWord n (cond yes (flip k ws) ws) r) ⌝ }
+fn flip_where(yes: bool, word: Word, k: usize) -> Word
+    requires { ⌜ k < width ⌝ }
+    ensures { λ r. ⌜ ((n : ℕ) (ws : List ℕ) → PacksWord n ws (value word) → k < n → PacksWord n (cond yes (flip k ws) ws) (value r)) ⌝ }
 {
     if yes { flip_bit(word, k) } else { word }
 }
 
 // The word with the cells flipped that the positions and the parity say: the last cell too where the ones would stay odd in
 // number. Three flips are too many.
-fn mend(d: Degree, word: u64, wrong: Positions, parity: u16, count: u64) -> Tried
+fn mend(d: Degree, word: Word, wrong: Positions, parity: u16, count: u64) -> Tried
     requires { ⌜ Below (size d) wrong ⌝ }
-    ensures { λ r. ⌜ (r .count ≡ count) × ((ws : List ℕ) → PacksWord (size d) ws word → Answers (size d) (mended d ws wrong (eqb parity 0)) r) ⌝ }
+    ensures { λ r. ⌜ (r .count ≡ count) × ((ws : List ℕ) → PacksWord (size d) ws (value word) → Answers (size d) (mended d ws wrong (eqb parity 0)) r) ⌝ }
 {
     let last = order_of(d);
     let even = parity == 0;
@@ -82,11 +85,11 @@ fn wrong_places(d: Degree, s: Syndrome, tables: &LineTables) -> Positions
 
 // The one way to bounded-distance decoding: it is handed the running count and gives it back one higher, and nothing else
 // adds to a line's count.
-pub fn counted(d: Degree, word: u64, count: u64, tables: &LineTables) -> Tried
+pub fn counted(d: Degree, word: Word, count: u64, tables: &LineTables) -> Tried
     requires { ⌜ (count < 1000) × TablesOf d (now tables) ⌝ }
-    ensures { λ r. ⌜ (r .count ≡ count + 1) × ((ws : List ℕ) → PacksWord (size d) ws word → Answers (size d) (bounded d ws) r) ⌝ }
+    ensures { λ r. ⌜ (r .count ≡ count + 1) × ((ws : List ℕ) → PacksWord (size d) ws (value word) → Answers (size d) (bounded d ws) r) ⌝ }
 {
-    let s = syndrome_of(d, word, tables);
+    let s = check_sums(d, word, tables);
     let wrong = wrong_places(d, s, tables);
     mend(d, word, wrong, s.parity, count + 1)
 }

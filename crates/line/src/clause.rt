@@ -3,8 +3,10 @@ use crate::bounded::Tried;
 use crate::packed::Line;
 use crate::packed::cell_at;
 use crate::packed::count_differences;
+use crate::packed::full;
 use crate::packed::word_cell;
 use crate::side::Side;
+use crate::word::Word;
 use degree::Degree;
 ghost use mathlib.Core.Path.{_≡_};
 ghost use mathlib.Core.Bool.{_&&_, _||_, not, cond};
@@ -12,10 +14,11 @@ ghost use mathlib.Core.List.{List};
 ghost use Prim.Native.Nat.{ℕ, _<_};
 ghost use lib.Dec.{eqb, ltb};
 ghost use Rattle.degree.specs.Degree.{size};
-ghost use Rattle.line.specs.Cells.{IsLine, cell, filled};
+ghost use Rattle.line.specs.Cells.{IsLine, cell, filled, designedDistance, radius};
 ghost use Rattle.line.specs.Bounded.{bounded};
 ghost use Rattle.line.specs.Clauses.{firstFit, clause};
-ghost use Rattle.line.specs.Packed.{Packs, PacksWord};
+ghost use Rattle.line.specs.Packed.{PacksWord};
+ghost use Rattle.line.specs.Word.{value, width};
 ghost use Rattle.line.specs.Working.{Answers};
 ghost use Rattle.line.specs.Fillings.{Halves, Sees, Based};
 
@@ -35,8 +38,8 @@ pub enum Clause {
 
 // One filling of a line: the filled word, the channel line filled by the same bits, what was found, and how far off that is.
 pub struct Half {
-    pub before: u64,
-    pub channel: u64,
+    pub before: Word,
+    pub channel: Word,
     pub tried: Tried,
     pub far: u32,
 }
@@ -49,8 +52,11 @@ pub struct Seen {
     pub bit: u64,
 }
 
-// What is known of a line before its cells are settled.
+// What is known of a line before its cells are settled: the incoming line, the channel line, the filling, and what came of them.
 pub struct Base {
+    pub incoming: Line,
+    pub channel: Line,
+    pub filling: Word,
     pub erased: u32,
     pub own: Line,
     pub one: Half,
@@ -59,10 +65,10 @@ pub struct Base {
 }
 
 // What a filling gave, measured once for all cells of the line.
-pub fn half_of(d: Degree, before: u64, channel: u64, tried: Tried) -> Half
-    ensures { λ r. ⌜ ((ys rs : List ℕ) (f : ℕ) (s : Side) → PacksWord (size d) (filled s ys f) before → PacksWord (size d) (filled s rs f) channel → Answers (size d) (bounded d (filled s ys f)) tried → Halves d ys rs f s r) ⌝ }
+pub fn half_of(d: Degree, before: Word, channel: Word, tried: Tried) -> Half
+    ensures { λ r. ⌜ ((ys rs : List ℕ) (f : ℕ) (s : Side) → PacksWord (size d) (filled s ys f) (value before) → PacksWord (size d) (filled s rs f) (value channel) → Answers (size d) (bounded d (filled s ys f)) tried → Halves d ys rs f s r) ⌝ }
 {
-    let far = count_differences(Line::new(before, 0), tried.word);
+    let far = count_differences(full(before), tried.word);
     Half {
         before,
         channel,
@@ -73,7 +79,7 @@ pub fn half_of(d: Degree, before: u64, channel: u64, tried: Tried) -> Half
 
 // A codeword that was found within 2 stays within 2, unless it lies at 2 and the change at the cell leads away from it.
 fn reaches(found: bool, far: u32, before: u64, bit: u64, own: u64) -> bool
-    ensures { λ r. ⌜ r ≡ (found && (ltb far 2 || (eqb before bit || not (eqb own before)))) ⌝ }
+    ensures { λ r. ⌜ r ≡ (found && (ltb far radius || (eqb before bit || not (eqb own before)))) ⌝ }
 {
     found & ((far < Line::RADIUS) | ((before == bit) | (own != before)))
 }
@@ -86,7 +92,7 @@ fn either(first: bool, a: u64, b: u64) -> u64
 
 // What a filling says at cell k, where the channel has c.
 pub fn seen_at(d: Degree, h: Half, c: u64, k: u32) -> Seen
-    requires { ⌜ k < 64 ⌝ }
+    requires { ⌜ k < width ⌝ }
     ensures { λ r. ⌜ ((ys rs : List ℕ) (f : ℕ) (s : Side) → IsLine (size d) ys → IsLine (size d) rs → k < size d → c ≡ cell rs k → Halves d ys rs f s h → Sees d ys rs f k s r) ⌝ }
 {
     let t = h.tried;
@@ -150,24 +156,24 @@ fn by_reach(one: Seen, two: Seen, c: u64) -> Clause
     )
 }
 
-// With 6 or more coming in: exactly 6, the incoming cell unsure and the channel's known.
+// With 6 or more unsure cells coming in: exactly 6, the incoming cell unsure and the channel's known.
 fn fresh(erased: u32, a: u64, c: u64) -> bool
-    ensures { λ r. ⌜ r ≡ (eqb erased 6 && (eqb a 2 && not (eqb c 2))) ⌝ }
+    ensures { λ r. ⌜ r ≡ (eqb erased designedDistance && (eqb a 2 && not (eqb c 2))) ⌝ }
 {
-    (erased == 6) & ((a == 2) & (c != 2))
+    (erased == Line::DISTANCE) & ((a == 2) & (c != 2))
 }
 
 // The clause that settles cell k.
-pub fn clause_at(d: Degree, y: Line, r: Line, k: u32, b: Base) -> Clause
-    requires { ⌜ k < 64 ⌝ }
-    ensures { λ v. ⌜ ((ys rs : List ℕ) (f : ℕ) → Packs (size d) ys y → Packs (size d) rs r → k < size d → Based d ys rs f b → v ≡ clause (bounded d) ys rs f k) ⌝ }
+pub fn clause_at(d: Degree, k: u32, b: Base) -> Clause
+    requires { ⌜ k < width ⌝ }
+    ensures { λ v. ⌜ ((ys rs : List ℕ) (f : ℕ) → k < size d → Based d ys rs f b → v ≡ clause (bounded d) ys rs f k) ⌝ }
 {
-    let a = cell_at(y, k);
-    let c = cell_at(r, k);
-    if b.erased < 6 {
+    let a = cell_at(b.incoming, k);
+    let c = cell_at(b.channel, k);
+    if b.erased < Line::DISTANCE {
         if a == c {
             Clause::Equal
-        } else if (b.erased == 5) & (c == 2) {
+        } else if (b.erased + 1 == Line::DISTANCE) & (c == 2) {
             Clause::Crowded
         } else {
             by_reach(seen_at(d, b.one, c, k), seen_at(d, b.two, c, k), c)

@@ -1,7 +1,8 @@
 // Is a packed word a codeword?
 use crate::tables::LineTables;
+use crate::word::Word;
+use crate::word::check_sums;
 use degree::Degree;
-use field::syndrome::syndrome_of;
 ghost use mathlib.Core.Path.{_≡_};
 ghost use mathlib.Core.List.{List};
 ghost use Prim.Native.Nat.{ℕ};
@@ -9,12 +10,13 @@ ghost use Rattle.degree.specs.Degree.{size};
 ghost use Rattle.line.specs.Tables.{TablesOf};
 ghost use Rattle.line.specs.Codeword.{isCodeword};
 ghost use Rattle.line.specs.Packed.{PacksWord};
+ghost use Rattle.line.specs.Word.{value};
 
 // A codeword has three check sums of 0.
-pub fn is_codeword(d: Degree, word: u64, tables: &LineTables) -> bool
+pub fn is_codeword(d: Degree, word: Word, tables: &LineTables) -> bool
     requires { ⌜ TablesOf d (now tables) ⌝ }
-    ensures { λ r. ⌜ ((ws : List ℕ) → PacksWord (size d) ws word → r ≡ isCodeword d ws) ⌝ }
+    ensures { λ r. ⌜ ((ws : List ℕ) → PacksWord (size d) ws (value word) → r ≡ isCodeword d ws) ⌝ }
 {
-    let s = syndrome_of(d, word, tables);
+    let s = check_sums(d, word, tables);
     (s.parity == 0) & ((s.s1 == 0) & (s.s3 == 0))
 }

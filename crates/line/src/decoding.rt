@@ -5,7 +5,11 @@ use crate::packed::Line;
 use crate::packed::count_differences;
 use crate::packed::count_erasures;
 use crate::packed::fill;
+use crate::packed::full;
 use crate::tables::LineTables;
+use crate::word::Word;
+use crate::word::same_word;
+use crate::word::zero_word;
 use degree::Degree;
 ghost use mathlib.Core.Path.{_≡_};
 ghost use mathlib.Core.List.{List};
@@ -16,6 +20,7 @@ ghost use Rattle.line.specs.Cells.{few, bit};
 ghost use Rattle.line.specs.Bounded.{Answer, bounded, orBack};
 ghost use Rattle.line.specs.Decoding.{choice, decode, decoded};
 ghost use Rattle.line.specs.Packed.{Packs};
+ghost use Rattle.line.specs.Word.{value};
 ghost use Rattle.line.specs.Working.{Answers};
 
 // A line, and the decodings counted so far.
@@ -33,7 +38,7 @@ pub fn choose(y: Line, one: Tried, two: Tried) -> Tried
         one
     } else if !one.found {
         two
-    } else if one.word == two.word {
+    } else if same_word(one.word, two.word) {
         one
     } else if count_differences(y, two.word) < count_differences(y, one.word) {
         two
@@ -46,37 +51,39 @@ pub fn choose(y: Line, one: Tried, two: Tried) -> Tried
 pub fn or_back(y: Line, t: Tried) -> Line
     ensures { λ r. ⌜ ((n : ℕ) (ys : List ℕ) (p : Answer) → Packs n ys y → Answers n p t → Packs n (orBack ys p) r) ⌝ }
 {
-    if t.found { Line::new(t.word, 0) } else { y }
+    if t.found { full(t.word) } else { y }
 }
 
 // Algorithm 1: count the unsure cells, fill, decode both words, measure and choose.
-pub fn try_packed(d: Degree, y: Line, filling: u64, count: u64, tables: &LineTables) -> Tried
+pub fn try_packed(d: Degree, y: Line, filling: Word, count: u64, tables: &LineTables) -> Tried
     requires { ⌜ (count < 900) × TablesOf d (now tables) ⌝ }
-    ensures { λ r. ⌜ (r .count ≤ count + 2) × ((ys : List ℕ) → Packs (size d) ys y → Answers (size d) (decode (bounded d) ys filling) r × (r .count ≡ count + 2 * bit (few ys))) ⌝ }
+    ensures { λ r. ⌜ (r .count ≤ count + 2) × ((ys : List ℕ) → Packs (size d) ys y → Answers (size d) (decode (bounded d) ys (value filling)) r × (r .count ≡ count + 2 * bit (few ys))) ⌝ }
 {
-    if count_erasures(y) < 6 {
+    if count_erasures(y) < Line::DISTANCE {
         let words = fill(y, filling);
         let one = counted(d, words[0], count, tables);
         let two = counted(d, words[1], one.count, tables);
         let best = choose(y, one, two);
+        let word = best.word;
         Tried {
             found: best.found,
-            word: best.word,
+            word,
             count: two.count,
         }
     } else {
+        let none = zero_word();
         Tried {
             found: false,
-            word: 0,
+            word: none,
             count,
         }
     }
 }
 
 // Line decoding: what Algorithm 1 found, or the line as it came.
-pub fn decode_packed(d: Degree, y: Line, filling: u64, count: u64, tables: &LineTables) -> Sent
+pub fn decode_packed(d: Degree, y: Line, filling: Word, count: u64, tables: &LineTables) -> Sent
     requires { ⌜ (count < 900) × TablesOf d (now tables) ⌝ }
-    ensures { λ r. ⌜ (r .count ≤ count + 2) × ((ys : List ℕ) → Packs (size d) ys y → Packs (size d) (decoded (bounded d) ys filling) (r .line) × (r .count ≡ count + 2 * bit (few ys))) ⌝ }
+    ensures { λ r. ⌜ (r .count ≤ count + 2) × ((ys : List ℕ) → Packs (size d) ys y → Packs (size d) (decoded (bounded d) ys (value filling)) (r .line) × (r .count ≡ count + 2 * bit (few ys))) ⌝ }
 {
     let t = try_packed(d, y, filling, count, tables);
     let line = or_back(y, t);

@@ -5,13 +5,14 @@ use crate::bounded::counted;
 use crate::decoding::or_back;
 use crate::decoding::try_packed;
 use crate::packed::Line;
-use crate::packed::fill;
+use crate::packed::ones_of;
 use crate::packed::pack;
 use crate::refusals::Call;
 use crate::refusals::Refusal;
 use crate::refusals::line_test;
 use crate::row::update_row;
 use crate::tables::line_tables;
+use crate::word::of_number;
 use degree::Degree;
 ghost use mathlib.Core.Path.{_≡_};
 ghost use Prim.Native.Nat.{ℕ, _%_};
@@ -51,8 +52,7 @@ fn bounded_taken(d: Degree, word: &mut [u8]) -> LineAnswer
 {
     let tables = line_tables(d);
     let y = pack(word);
-    let words = fill(y, 0); // a full word has no cell to fill, so both are the word
-    let t = counted(d, words[0], 0, &tables);
+    let t = counted(d, ones_of(y), 0, &tables); // no cell of a full word is unsure
     answer_in(word, y, t)
 }
 
@@ -62,7 +62,7 @@ fn decode_taken(d: Degree, cells: &mut [u8], filling: u64) -> LineAnswer
 {
     let tables = line_tables(d);
     let y = pack(cells);
-    let t = try_packed(d, y, filling, 0, &tables);
+    let t = try_packed(d, y, of_number(filling), 0, &tables);
     answer_in(cells, y, t)
 }
 

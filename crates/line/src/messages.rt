@@ -15,12 +15,23 @@ use crate::packed::Line;
 use crate::packed::cell_at;
 use crate::packed::count_erasures;
 use crate::packed::differing;
+use crate::packed::erased_of;
 use crate::packed::fill;
 use crate::packed::known_only_in;
 use crate::packed::put;
 use crate::packed::word_of;
 use crate::side::Side;
 use crate::tables::LineTables;
+use crate::word::Word;
+use crate::word::and_words;
+use crate::word::is_zero;
+use crate::word::lowest;
+use crate::word::or_words;
+use crate::word::rest;
+use crate::word::same_word;
+use crate::word::without;
+use crate::word::xor_words;
+use crate::word::zero_word;
 use degree::Degree;
 ghost use mathlib.Core.Path.{_≡_};
 ghost use mathlib.Core.Bool.{true, false, _&&_};
@@ -30,11 +41,12 @@ ghost use lib.Dec.{eqb};
 ghost use Rattle.laws.specs.Bits.{bitAt};
 ghost use Rattle.degree.specs.Degree.{size};
 ghost use Rattle.line.specs.Tables.{TablesOf};
-ghost use Rattle.line.specs.Cells.{IsLine, cell, erasures, few, bit, filled};
+ghost use Rattle.line.specs.Cells.{IsLine, cell, erasures, few, bit, filled, designedDistance};
 ghost use Rattle.line.specs.Bounded.{Answer, bounded, orBack};
 ghost use Rattle.line.specs.Decoding.{replaced, message, messages, decoded};
 ghost use Rattle.line.specs.Clauses.{ifNear, instead, cost, clause, settled, count};
 ghost use Rattle.line.specs.Packed.{Packs};
+ghost use Rattle.line.specs.Word.{value, width};
 ghost use Rattle.line.specs.Working.{Answers};
 ghost use Rattle.line.specs.Fillings.{Halves, Based, Masks, stays, oneCodeword, triedOf};
 
@@ -48,7 +60,7 @@ pub struct Settled {
 
 // Cell k of an answer to a line.
 fn answer_at(z: Line, t: Tried, k: u32) -> u64
-    requires { ⌜ k < 64 ⌝ }
+    requires { ⌜ k < width ⌝ }
     ensures { λ r. ⌜ ((n : ℕ) (zs : List ℕ) (p : Answer) → Packs n zs z → Answers n p t → r ≡ cell (orBack zs p) k) ⌝ }
 {
     cell_at(or_back(z, t), k)
@@ -56,14 +68,15 @@ fn answer_at(z: Line, t: Tried, k: u32) -> u64
 
 // What a filling found, where it is in reach at the cell.
 fn near_only(d: Degree, h: Half, c: u64, k: u32) -> Tried
-    requires { ⌜ k < 64 ⌝ }
+    requires { ⌜ k < width ⌝ }
     ensures { λ r. ⌜ ((ys rs : List ℕ) (f : ℕ) (s : Side) → IsLine (size d) ys → IsLine (size d) rs → k < size d → c ≡ cell rs k → Halves d ys rs f s h → Answers (size d) (ifNear (bounded d (filled s ys f)) (filled s (replaced ys rs k) f)) r) ⌝ }
 {
     let v = seen_at(d, h, c, k);
     let t = h.tried;
+    let word = t.word;
     Tried {
         found: t.found & v.reach,
-        word: t.word,
+        word,
         count: t.count,
     }
 }
@@ -93,16 +106,15 @@ fn open_cell(
     z: Line,
     c: u64,
     k: u32,
-    filling: u64,
     s: Side,
     b: Base,
     count: u64,
     tables: &LineTables,
 ) -> Settled
-    requires { ⌜ (k < 64) × (count < 900) × TablesOf d (now tables) ⌝ }
-    ensures { λ r. ⌜ (r .count ≡ count + 1) × ((ys rs : List ℕ) → IsLine (size d) ys → IsLine (size d) rs → k < size d → Packs (size d) (replaced ys rs k) z → c ≡ cell rs k → Halves d ys rs filling Side.One (b .one) → Halves d ys rs filling Side.Two (b .two) → r .cell ≡ settled (bounded d) ys rs filling k (Clause.Open s)) ⌝ }
+    requires { ⌜ (k < width) × (count < 900) × TablesOf d (now tables) ⌝ }
+    ensures { λ r. ⌜ (r .count ≡ count + 1) × ((ys rs : List ℕ) (f : ℕ) → k < size d → Based d ys rs f b → few ys ≡ true → Packs (size d) (replaced ys rs k) z → c ≡ cell rs k → r .cell ≡ settled (bounded d) ys rs f k (Clause.Open s)) ⌝ }
 {
-    let words = fill(z, filling);
+    let words = fill(z, b.filling);
     let t = counted(d, word_of(words, s), count, tables);
     let one = near_only(d, b.one, c, k);
     let two = near_only(d, b.two, c, k);
@@ -115,9 +127,9 @@ fn open_cell(
 }
 
 // A cell decoded afresh: the replaced line z is decoded whole.
-fn fresh_cell(d: Degree, z: Line, k: u32, filling: u64, count: u64, tables: &LineTables) -> Settled
-    requires { ⌜ (k < 64) × (count < 800) × TablesOf d (now tables) ⌝ }
-    ensures { λ r. ⌜ (r .count ≤ count + 2) × ((zs : List ℕ) → Packs (size d) zs z → (r .cell ≡ cell (decoded (bounded d) zs filling) k) × (r .count ≡ count + 2 * bit (few zs))) ⌝ }
+fn fresh_cell(d: Degree, z: Line, k: u32, filling: Word, count: u64, tables: &LineTables) -> Settled
+    requires { ⌜ (k < width) × (count < 800) × TablesOf d (now tables) ⌝ }
+    ensures { λ r. ⌜ (r .count ≤ count + 2) × ((zs : List ℕ) → Packs (size d) zs z → (r .cell ≡ cell (decoded (bounded d) zs (value filling)) k) × (r .count ≡ count + 2 * bit (few zs))) ⌝ }
 {
     let whole = decode_packed(d, z, filling, count, tables);
     Settled {
@@ -134,22 +146,12 @@ fn at_no_cost(cell: u64, count: u64) -> Settled
 }
 
 // The clauses of document 01, in its order.
-fn settle(
-    d: Degree,
-    v: Clause,
-    y: Line,
-    r: Line,
-    k: u32,
-    filling: u64,
-    b: Base,
-    count: u64,
-    tables: &LineTables,
-) -> Settled
-    requires { ⌜ (k < 64) × (count < 800) × TablesOf d (now tables) ⌝ }
-    ensures { λ m. ⌜ (m .count ≤ count + 2) × ((ys rs : List ℕ) → Packs (size d) ys y → Packs (size d) rs r → k < size d → Based d ys rs filling b → v ≡ clause (bounded d) ys rs filling k → (m .cell ≡ settled (bounded d) ys rs filling k v) × (m .count ≡ count + cost v)) ⌝ }
+fn settle(d: Degree, v: Clause, k: u32, b: Base, count: u64, tables: &LineTables) -> Settled
+    requires { ⌜ (k < width) × (count < 800) × TablesOf d (now tables) ⌝ }
+    ensures { λ m. ⌜ (m .count ≤ count + 2) × ((ys rs : List ℕ) (f : ℕ) → k < size d → Based d ys rs f b → v ≡ clause (bounded d) ys rs f k → (m .cell ≡ settled (bounded d) ys rs f k v) × (m .count ≡ count + cost v)) ⌝ }
 {
-    let c = cell_at(r, k);
-    let z = put(y, k, c);
+    let c = cell_at(b.channel, k);
+    let z = put(b.incoming, k, c);
     match v {
         Clause::Equal => at_no_cost(cell_at(b.own, k), count),
         Clause::Crowded => at_no_cost(2, count),
@@ -157,48 +159,30 @@ fn settle(
         Clause::Neither => at_no_cost(c, count),
         Clause::Agreeing(s) => at_no_cost(answer_at(z, tried_of(b, s), k), count),
         Clause::Unchanged(s) => at_no_cost(answer_at(z, tried_of(b, s), k), count),
-        Clause::Open(s) => open_cell(d, z, c, k, filling, s, b, count, tables),
-        Clause::Afresh => fresh_cell(d, z, k, filling, count, tables),
+        Clause::Open(s) => open_cell(d, z, c, k, s, b, count, tables),
+        Clause::Afresh => fresh_cell(d, z, k, b.filling, count, tables),
         Clause::Channel => at_no_cost(c, count),
     }
 }
 
 // The message at cell k.
-fn message_at(
-    d: Degree,
-    y: Line,
-    r: Line,
-    k: u32,
-    filling: u64,
-    b: Base,
-    count: u64,
-    tables: &LineTables,
-) -> Settled
-    requires { ⌜ (k < 64) × (count < 800) × TablesOf d (now tables) ⌝ }
-    ensures { λ m. ⌜ (m .count ≤ count + 2) × ((ys rs : List ℕ) → Packs (size d) ys y → Packs (size d) rs r → k < size d → Based d ys rs filling b → (m .cell ≡ message (bounded d) ys rs filling k) × (m .count ≡ count + cost (clause (bounded d) ys rs filling k))) ⌝ }
+fn message_at(d: Degree, k: u32, b: Base, count: u64, tables: &LineTables) -> Settled
+    requires { ⌜ (k < width) × (count < 800) × TablesOf d (now tables) ⌝ }
+    ensures { λ m. ⌜ (m .count ≤ count + 2) × ((ys rs : List ℕ) (f : ℕ) → k < size d → Based d ys rs f b → (m .cell ≡ message (bounded d) ys rs f k) × (m .count ≡ count + cost (clause (bounded d) ys rs f k))) ⌝ }
 {
-    settle(
-        d,
-        clause_at(d, y, r, k, b),
-        y,
-        r,
-        k,
-        filling,
-        b,
-        count,
-        tables,
-    )
+    settle(d, clause_at(d, k, b), k, b, count, tables)
 }
 
 // ---- a line
 
 fn no_half() -> Half {
+    let none = zero_word();
     Half {
-        before: 0,
-        channel: 0,
+        before: none,
+        channel: none,
         tried: Tried {
             found: false,
-            word: 0,
+            word: none,
             count: 0,
         },
         far: 0,
@@ -206,15 +190,18 @@ fn no_half() -> Half {
 }
 
 // Both fillings decoded.
-fn few_base(d: Degree, y: Line, r: Line, filling: u64, erased: u32, tables: &LineTables) -> Base
+fn few_base(d: Degree, y: Line, r: Line, filling: Word, erased: u32, tables: &LineTables) -> Base
     requires { ⌜ TablesOf d (now tables) ⌝ }
-    ensures { λ b. ⌜ (b .count ≡ 2) × ((ys rs : List ℕ) → Packs (size d) ys y → Packs (size d) rs r → erased ≡ erasures ys → few ys ≡ true → Based d ys rs filling b) ⌝ }
+    ensures { λ b. ⌜ (b .count ≡ 2) × ((ys rs : List ℕ) → Packs (size d) ys y → Packs (size d) rs r → erased ≡ erasures ys → few ys ≡ true → Based d ys rs (value filling) b) ⌝ }
 {
     let words = fill(y, filling);
     let channel = fill(r, filling);
     let one = counted(d, words[0], 0, tables);
     let two = counted(d, words[1], one.count, tables);
     Base {
+        incoming: y,
+        channel: r,
+        filling,
         erased,
         own: or_back(y, choose(y, one, two)),
         one: half_of(d, words[0], channel[0], one),
@@ -223,15 +210,18 @@ fn few_base(d: Degree, y: Line, r: Line, filling: u64, erased: u32, tables: &Lin
     }
 }
 
-fn base_of(d: Degree, y: Line, r: Line, filling: u64, tables: &LineTables) -> Base
+fn base_of(d: Degree, y: Line, r: Line, filling: Word, tables: &LineTables) -> Base
     requires { ⌜ TablesOf d (now tables) ⌝ }
-    ensures { λ b. ⌜ (b .count ≤ 2) × ((ys rs : List ℕ) → Packs (size d) ys y → Packs (size d) rs r → Based d ys rs filling b) ⌝ }
+    ensures { λ b. ⌜ (b .count ≤ 2) × ((ys rs : List ℕ) → Packs (size d) ys y → Packs (size d) rs r → Based d ys rs (value filling) b) ⌝ }
 {
     let erased = count_erasures(y);
-    if erased < 6 {
+    if erased < Line::DISTANCE {
         few_base(d, y, r, filling, erased, tables)
     } else {
         Base {
+            incoming: y,
+            channel: r,
+            filling,
             erased,
             own: r,
             one: no_half(),
@@ -242,23 +232,28 @@ fn base_of(d: Degree, y: Line, r: Line, filling: u64, tables: &LineTables) -> Ba
 }
 
 // The cells at which a codeword that was found may leave reach: it lies at 2, and the change at the cell leads away from it.
-fn leaving(h: Half) -> u64
-    ensures { λ r. ⌜ ((k : ℕ) → bitAt r k ≡ 0 → stays h k ≡ true) ⌝ }
+fn leaving(h: Half) -> Word
+    ensures { λ r. ⌜ ((k : ℕ) → bitAt (value r) k ≡ 0 → stays h k ≡ true) ⌝ }
 {
     let t = h.tried;
-    let moved = h.before ^ h.channel;
+    let moved = xor_words(h.before, h.channel);
     if h.far < Line::RADIUS {
-        0
+        zero_word()
     } else {
-        moved ^ (moved & (t.word ^ h.before))
+        without(moved, xor_words(t.word, h.before))
     }
 }
 
 // The cells at which a replaced line may have 6 erasures.
-fn crowding(r: Line, erased: u32) -> u64
-    ensures { λ m. ⌜ ((n : ℕ) (rs : List ℕ) → Packs n rs r → (k : ℕ) → bitAt m k ≡ 0 → (eqb erased 5 && eqb (cell rs k) 2) ≡ false) ⌝ }
+fn crowding(r: Line, erased: u32) -> Word
+    requires { ⌜ erased < designedDistance ⌝ }
+    ensures { λ m. ⌜ ((n : ℕ) (rs : List ℕ) → Packs n rs r → (k : ℕ) → bitAt (value m) k ≡ 0 → (eqb (erased + 1) designedDistance && eqb (cell rs k) 2) ≡ false) ⌝ }
 {
-    if erased == 5 { r.erased } else { 0 }
+    if erased + 1 == Line::DISTANCE {
+        erased_of(r)
+    } else {
+        zero_word()
+    }
 }
 
 // Did both fillings decode to one codeword?
@@ -267,51 +262,55 @@ fn one_codeword(b: Base) -> bool
 {
     let one = b.one.tried;
     let two = b.two.tried;
-    (one.found & two.found) & (one.word == two.word)
+    (one.found & two.found) & same_word(one.word, two.word)
 }
 
 // The cells that differ from the channel's, or with exactly 6 erasures those known only there: at all others the message is the
 // cell of the base line.
-fn mask_of(d: Degree, y: Line, r: Line, erased: u32) -> u64
-    ensures { λ m. ⌜ ((ys rs : List ℕ) (f : ℕ) → Packs (size d) ys y → Packs (size d) rs r → erased ≡ erasures ys → Masks d ys rs f m) ⌝ }
+fn mask_of(d: Degree, y: Line, r: Line, erased: u32) -> Word
+    ensures { λ m. ⌜ ((ys rs : List ℕ) (f : ℕ) → Packs (size d) ys y → Packs (size d) rs r → erased ≡ erasures ys → Masks d ys rs f (value m)) ⌝ }
 {
-    if erased < 6 {
+    if erased < Line::DISTANCE {
         differing(y, r)
-    } else if erased == 6 {
+    } else if erased == Line::DISTANCE {
         known_only_in(y, r)
     } else {
-        0
+        zero_word()
     }
 }
 
 // The cells that are settled one by one. Where both fillings decoded to one codeword, it is the message of each cell at which it
 // stays in reach of both, and it is the base line.
-fn left_of(d: Degree, y: Line, r: Line, b: Base) -> u64
-    ensures { λ m. ⌜ ((ys rs : List ℕ) (f : ℕ) → Packs (size d) ys y → Packs (size d) rs r → Based d ys rs f b → Masks d ys rs f m) ⌝ }
+fn left_of(d: Degree, b: Base) -> Word
+    ensures { λ m. ⌜ ((ys rs : List ℕ) (f : ℕ) → Based d ys rs f b → Masks d ys rs f (value m)) ⌝ }
 {
-    let all = mask_of(d, y, r, b.erased);
-    if (b.erased < 6) & one_codeword(b) {
-        all & (leaving(b.one) | (leaving(b.two) | crowding(r, b.erased)))
+    let all = mask_of(d, b.incoming, b.channel, b.erased);
+    if (b.erased < Line::DISTANCE) & one_codeword(b) {
+        let crowded = crowding(b.channel, b.erased);
+        and_words(
+            all,
+            or_words(leaving(b.one), or_words(leaving(b.two), crowded)),
+        )
     } else {
         all
     }
 }
 
 // All messages of incoming line y with channel line r.
-pub fn messages_of(d: Degree, y: Line, r: Line, filling: u64, tables: &LineTables) -> Sent
+pub fn messages_of(d: Degree, y: Line, r: Line, filling: Word, tables: &LineTables) -> Sent
     requires { ⌜ TablesOf d (now tables) ⌝ }
-    ensures { λ s. ⌜ ((ys rs : List ℕ) → Packs (size d) ys y → Packs (size d) rs r → Packs (size d) (messages (bounded d) ys rs filling) (s .line) × (s .count ≡ count (bounded d) ys rs filling)) ⌝ }
+    ensures { λ s. ⌜ (s .count ≤ 130) × ((ys rs : List ℕ) → Packs (size d) ys y → Packs (size d) rs r → Packs (size d) (messages (bounded d) ys rs (value filling)) (s .line) × (s .count ≡ count (bounded d) ys rs (value filling))) ⌝ }
 {
     let b = base_of(d, y, r, filling, tables);
     let mut line = b.own;
     let mut count = b.count;
-    let mut left = left_of(d, y, r, b);
-    while left != 0 {
-        let k = u64::trailing_zeros(left);
-        let m = message_at(d, y, r, k, filling, b, count, tables);
+    let mut left = left_of(d, b);
+    while !is_zero(left) {
+        let k = lowest(left);
+        let m = message_at(d, k, b, count, tables);
         line = put(line, k, m.cell);
         count = m.count;
-        left = left & (left - 1);
+        left = rest(left);
     }
     Sent { line, count }
 }

@@ -9,6 +9,7 @@ use crate::refusals::Refusal;
 use crate::refusals::at_most;
 use crate::refusals::shape_test;
 use crate::tables::line_tables;
+use crate::word::of_number;
 use degree::Degree;
 use degree::Named;
 use degree::degree_of;
@@ -51,7 +52,7 @@ fn send_taken(d: Degree, incoming: &[u8], channel: &[u8], filling: u64, messages
     let tables = line_tables(d);
     let y = pack(incoming);
     let r = pack(channel);
-    let sent = messages_of(d, y, r, filling, &tables);
+    let sent = messages_of(d, y, r, of_number(filling), &tables);
     unpack(sent.line, messages);
     sent.count
 }

@@ -1,28 +1,44 @@
-// A line packed in machine words. Only this module knows how.
+// A line packed in words. Only this module knows how.
 use crate::side::Side;
+use crate::word::Word;
+use crate::word::above_byte;
+use crate::word::and_words;
+use crate::word::bit_at;
+use crate::word::count_bits;
+use crate::word::is_zero;
+use crate::word::lowest_byte;
+use crate::word::not_word;
+use crate::word::or_words;
+use crate::word::put_bit;
+use crate::word::same_word;
+use crate::word::with_byte;
+use crate::word::without;
+use crate::word::xor_words;
+use crate::word::zero_word;
 use degree::Degree;
 use words::bytes::eight;
 use words::bytes::gather;
 use words::bytes::put_eight;
 use words::bytes::spread;
 ghost use mathlib.Core.Path.{_≡_};
-ghost use mathlib.Core.Bool.{true};
 ghost use mathlib.Core.List.{List};
-ghost use Prim.Native.Nat.{ℕ, _+_, _-_, _*_, _<_, _≤_, _/_, _%_, _^_};
+ghost use Prim.Native.Nat.{ℕ, _+_, _-_, _*_, _<_, _≤_, _%_};
 ghost use lib.Bits.{bitAnd, bitOr, bitXor};
 ghost use lib.ListN.{length, set};
 ghost use Rattle.degree.specs.Degree.{bits, size, order};
-ghost use Rattle.line.specs.Cells.{Cells, cell, erasures, distance, filled, isOne, isErased, flip};
-ghost use Rattle.line.specs.Packed.{packBy, Packs, PacksWord, sideWord};
+ghost use Rattle.line.specs.Cells.{cell, erasures, distance, filled};
+ghost use Rattle.line.specs.Word.{value, width};
+ghost use Rattle.line.specs.Packed.{Packs, PacksWord, sideWord};
 
 // Bit i of `ones` says that cell i is 1, bit i of `erased` that it is unsure.
 pub struct Line {
-    pub ones: u64,
-    pub erased: u64,
+    pub ones: Word,
+    pub erased: Word,
 }
 
 impl Line {
-    // Of each degree: n, the cells of a line, and k, its message cells. The radius is the same for both.
+    // Of each degree: n, the cells of a line, and k, its message cells. The radius and the designed distance are the same for
+    // both.
     pub const N_FOUR: usize = 16;
 
     pub const K_FOUR: usize = 7;
@@ -32,6 +48,8 @@ impl Line {
     pub const K_SIX: usize = 51;
 
     pub const RADIUS: u32 = 2;
+
+    pub const DISTANCE: u32 = 6;
 
     // n
     pub fn cells(d: Degree) -> usize
@@ -53,47 +71,58 @@ impl Line {
         }
     }
 
-    pub fn new(ones: u64, erased: u64) -> Line
+    pub fn new(ones: Word, erased: Word) -> Line
         ensures { λ r. ⌜ (r .ones ≡ ones) × (r .erased ≡ erased) ⌝ }
     {
         Line { ones, erased }
     }
 }
 
-// ---- cells
-
-fn bit_at(word: u64, k: u32) -> u64
-    requires { ⌜ k < 64 ⌝ }
-    ensures { λ r. ⌜ r ≡ word / 2 ^ k % 2 ⌝ }
+// A full word as a line without erasures.
+pub fn full(word: Word) -> Line
+    ensures { λ r. ⌜ ((n : ℕ) (ws : List ℕ) → PacksWord n ws (value word) → Packs n ws r) ⌝ }
 {
-    (word >> k) % 2
+    let none = zero_word();
+    Line {
+        ones: word,
+        erased: none,
+    }
 }
 
+// The cells that are 1.
+pub fn ones_of(l: Line) -> Word
+    ensures { λ r. ⌜ r ≡ l .ones ⌝ }
+{
+    l.ones
+}
+
+// The cells that are unsure.
+pub fn erased_of(l: Line) -> Word
+    ensures { λ r. ⌜ r ≡ l .erased ⌝ }
+{
+    l.erased
+}
+
+// ---- cells
+
 pub fn cell_at(l: Line, k: u32) -> u64
-    requires { ⌜ k < 64 ⌝ }
+    requires { ⌜ k < width ⌝ }
     ensures { λ r. ⌜ (r < 4) × ((n : ℕ) (cs : List ℕ) → Packs n cs l → r ≡ cell cs k) ⌝ }
 {
     bit_at(l.ones, k) + 2 * bit_at(l.erased, k)
 }
 
 // Cell k of a full word.
-pub fn word_cell(word: u64, k: u32) -> u64
-    requires { ⌜ k < 64 ⌝ }
-    ensures { λ r. ⌜ (r < 2) × ((n : ℕ) (ws : List ℕ) → PacksWord n ws word → r ≡ cell ws k) ⌝ }
+pub fn word_cell(word: Word, k: u32) -> u64
+    requires { ⌜ k < width ⌝ }
+    ensures { λ r. ⌜ (r < 2) × ((n : ℕ) (ws : List ℕ) → PacksWord n ws (value word) → r ≡ cell ws k) ⌝ }
 {
     bit_at(word, k)
 }
 
-fn put_bit(word: u64, k: u32, x: u64) -> u64
-    requires { ⌜ (k < 64) × (x < 2) ⌝ }
-    ensures { λ r. ⌜ r ≡ bitXor word (bitXor (word / 2 ^ k % 2) x * 2 ^ k) ⌝ }
-{
-    word ^ ((bit_at(word, k) ^ x) << k)
-}
-
 // The line with cell k made c.
 pub fn put(l: Line, k: u32, c: u64) -> Line
-    requires { ⌜ k < 64 ⌝ }
+    requires { ⌜ k < width ⌝ }
     ensures { λ r. ⌜ ((n : ℕ) (cs : List ℕ) → Packs n cs l → k < n → c < 3 → Packs n (set cs k c) r) ⌝ }
 {
     Line {
@@ -102,25 +131,18 @@ pub fn put(l: Line, k: u32, c: u64) -> Line
     }
 }
 
-// The word with cell k flipped.
-pub fn flip_bit(word: u64, k: usize) -> u64
-    requires { ⌜ k < 64 ⌝ }
-    ensures { λ r. ⌜ ((n : ℕ) (ws : List ℕ) → PacksWord n ws word → k < n → PacksWord n (flip k ws) r) ⌝ }
-{
-    word ^ (1 << k)
-}
-
 // ---- fillings, erasures, distances
 
 // Word one and word two.
-pub fn fill(l: Line, filling: u64) -> [u64; 2]
-    ensures { λ r. ⌜ ((n : ℕ) (cs : List ℕ) → Packs n cs l → (s : Side) → PacksWord n (filled s cs filling) (sideWord s r)) ⌝ }
+pub fn fill(l: Line, filling: Word) -> [Word; 2]
+    ensures { λ r. ⌜ ((n : ℕ) (cs : List ℕ) → Packs n cs l → (s : Side) → PacksWord n (filled s cs (value filling)) (value (sideWord s r))) ⌝ }
 {
-    let one = l.ones | (l.erased & filling);
-    [one, one ^ l.erased]
+    let one = or_words(l.ones, and_words(l.erased, filling));
+    let two = xor_words(one, l.erased);
+    [one, two]
 }
 
-pub fn word_of(words: [u64; 2], s: Side) -> u64
+pub fn word_of(words: [Word; 2], s: Side) -> Word
     ensures { λ r. ⌜ r ≡ sideWord s words ⌝ }
 {
     match s {
@@ -131,54 +153,54 @@ pub fn word_of(words: [u64; 2], s: Side) -> u64
 
 // The erasures of a line. In a decode there are mostly none, and then there is nothing to count.
 pub fn count_erasures(l: Line) -> u32
-    ensures { λ r. ⌜ (r ≤ 64) × ((n : ℕ) (cs : List ℕ) → Packs n cs l → r ≡ erasures cs) ⌝ }
+    ensures { λ r. ⌜ (r ≤ width) × ((n : ℕ) (cs : List ℕ) → Packs n cs l → r ≡ erasures cs) ⌝ }
 {
-    if l.erased == 0 {
+    if is_zero(l.erased) {
         0
     } else {
-        u64::count_ones(l.erased)
+        count_bits(l.erased)
     }
 }
 
 // The differences of a line from a word, at the line's known cells: none where the word is the line's own, as it mostly is.
-pub fn count_differences(l: Line, word: u64) -> u32
-    ensures { λ r. ⌜ ((n : ℕ) (cs ws : List ℕ) → Packs n cs l → PacksWord n ws word → r ≡ distance cs ws) ⌝ }
+pub fn count_differences(l: Line, word: Word) -> u32
+    ensures { λ r. ⌜ ((n : ℕ) (cs ws : List ℕ) → Packs n cs l → PacksWord n ws (value word) → r ≡ distance cs ws) ⌝ }
 {
-    let known = !l.erased;
-    if word == l.ones {
+    if same_word(word, l.ones) {
         0
     } else {
-        u64::count_ones((word ^ l.ones) & known)
+        let known = not_word(l.erased);
+        count_bits(and_words(xor_words(word, l.ones), known))
     }
 }
 
 // The cells in which two lines differ.
-pub fn differing(a: Line, b: Line) -> u64
-    ensures { λ r. ⌜ r ≡ bitOr (bitXor (a .ones) (b .ones)) (bitXor (a .erased) (b .erased)) ⌝ }
+pub fn differing(a: Line, b: Line) -> Word
+    ensures { λ r. ⌜ value r ≡ bitOr (bitXor (value (a .ones)) (value (b .ones))) (bitXor (value (a .erased)) (value (b .erased))) ⌝ }
 {
-    (a.ones ^ b.ones) | (a.erased ^ b.erased)
+    or_words(xor_words(a.ones, b.ones), xor_words(a.erased, b.erased))
 }
 
 // The cells that are unsure in the first line and known in the second.
-pub fn known_only_in(a: Line, b: Line) -> u64
-    ensures { λ r. ⌜ r ≡ bitXor (a .erased) (bitAnd (a .erased) (b .erased)) ⌝ }
+pub fn known_only_in(a: Line, b: Line) -> Word
+    ensures { λ r. ⌜ value r ≡ bitXor (value (a .erased)) (bitAnd (value (a .erased)) (value (b .erased))) ⌝ }
 {
-    a.erased ^ (a.erased & b.erased)
+    without(a.erased, b.erased)
 }
 
 // ---- from cells in bytes to a packed line, eight cells at a time
 
 pub fn pack(cells: &[u8]) -> Line
-    requires { ⌜ (length (now cells) ≤ 64) × (length (now cells) % 8 ≡ 0) × ((i : ℕ) → cell (now cells) i < 3) ⌝ }
+    requires { ⌜ (length (now cells) ≤ width) × (length (now cells) % 8 ≡ 0) × ((i : ℕ) → cell (now cells) i < 3) ⌝ }
     ensures { λ r. ⌜ Packs (length (now (cells .entry))) (now (cells .entry)) r ⌝ }
 {
-    let mut ones: u64 = 0;
-    let mut erased: u64 = 0;
+    let mut ones = zero_word();
+    let mut erased = zero_word();
     let mut at = 0;
     while at < cells.len() {
         let x = eight(cells, at);
-        ones = ones | (gather(x) << at);
-        erased = erased | (gather(x >> 1) << at);
+        ones = with_byte(ones, at, gather(x));
+        erased = with_byte(erased, at, gather(x >> 1));
         at += 8;
     }
     Line { ones, erased }
@@ -194,9 +216,11 @@ pub fn unpack(l: Line, cells: &mut [u8])
     let mut erased = l.erased;
     let mut at = 0;
     while at < cells.len() {
-        put_eight(cells, at, spread(ones % 256) + 2 * spread(erased % 256));
-        ones = ones >> 8;
-        erased = erased >> 8;
+        let x = lowest_byte(ones);
+        let y = lowest_byte(erased);
+        put_eight(cells, at, spread(x) + 2 * spread(y));
+        ones = above_byte(ones);
+        erased = above_byte(erased);
         at += 8;
     }
 }

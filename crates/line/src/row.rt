@@ -2,6 +2,7 @@
 use crate::packed::Line;
 use crate::packed::differing;
 use crate::packed::unpack;
+use crate::word::is_zero;
 ghost use mathlib.Core.Path.{_≡_};
 ghost use Prim.Native.Nat.{_%_};
 ghost use lib.ListN.{length};
@@ -12,7 +13,7 @@ pub fn update_row(row: &mut [u8], old: Line, new: Line)
     requires { ⌜ length (now row) % 8 ≡ 0 ⌝ }
     ensures { λ _. ⌜ Updated old new (now (row .entry)) (now (row .exit)) ⌝ }
 {
-    if differing(old, new) != 0 {
+    if !is_zero(differing(old, new)) {
         unpack(new, row)
     }
 }

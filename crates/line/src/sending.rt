@@ -4,11 +4,13 @@ use crate::messages::messages_of;
 use crate::packed::Line;
 use crate::row::update_row;
 use crate::tables::LineTables;
+use crate::word::Word;
 use degree::Degree;
 ghost use Prim.Native.Nat.{_%_};
 ghost use mathlib.Core.Path.{_≡_};
 ghost use lib.ListN.{length};
 ghost use Rattle.line.specs.Tables.{TablesOf};
+ghost use Rattle.line.specs.Word.{value};
 ghost use Rattle.line.specs.SentRows.{SentRow};
 
 // A lent row, which y holds packed, replaced by its messages, which are handed back packed.
@@ -17,11 +19,11 @@ pub fn send_row(
     row: &mut [u8],
     y: Line,
     r: Line,
-    filling: u64,
+    filling: Word,
     tables: &LineTables,
 ) -> Sent
     requires { ⌜ (length (now row) % 8 ≡ 0) × TablesOf d (now tables) ⌝ }
-    ensures { λ s. ⌜ SentRow d y r filling (now (row .entry)) (now (row .exit)) s ⌝ }
+    ensures { λ s. ⌜ SentRow d y r (value filling) (now (row .entry)) (now (row .exit)) s ⌝ }
 {
     let sent = messages_of(d, y, r, filling, tables);
     update_row(row, y, sent.line);

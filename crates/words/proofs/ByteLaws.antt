@@ -3,12 +3,12 @@
 use mathlib.Core.Path.{_≡_, refl, sym, ap, _∙_}
 use mathlib.Core.List.{List, [], _∷_}
 use Prim.Native.Nat.{ℕ, zero, suc, _+_, _*_, _/_, _%_, _^_, _≤_, _<_}
-use native.Mathlib.Nat.{add-zero, add-suc}
+use native.Mathlib.Nat.{add-zero, add-suc, pow-suc}
 use native.Mathlib.Omega.{arith}
 use lib.ListN.{length, getD, take, drop, set}
 use lib.Pow.{shr-shr}
 use lib.Seq.{drop-cons, sets}
-use Rattle.words.specs.Bytes.{joined, bytesOf}
+use Rattle.words.specs.Bytes.{joined, bytesOf, gathered}
 
 -- ---- bytes joined
 
@@ -71,3 +71,9 @@ bytes-joined [] h = refl
 bytes-joined (b ∷ bs) h =
     let e = low-and-rest (joined bs) {b = b} (h 0) in
     rw (e .0, e .1) (ap {B = List ℕ} (λ r. b ∷ r) (bytes-joined bs (λ i. h (suc i))))
+
+-- the lowest bits of n bytes are n bits
+pub gathered-lt : (n x : ℕ) → gathered n x < 2 ^ n
+unfolding gathered
+gathered-lt zero x = omega arith
+gathered-lt (suc n) x = rw (pow-suc 2 n) (omega (arith, gathered-lt n (x / 256)))

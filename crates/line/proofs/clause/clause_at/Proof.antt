@@ -16,6 +16,9 @@ cell-at-requires c κs = search needs
 cell-at-requires-2 : tie.Need-cell-at-requires-2
 cell-at-requires-2 c κs = search needs
 
+add-if3 : tie.Need-add-if3
+add-if3 c = search needs
+
 seen-at-requires : tie.Need-seen-at-requires
 seen-at-requires c κs = search needs
 
@@ -30,14 +33,18 @@ fresh-requires c κs = search needs
 
 returns : tie.Need-returns
 returns c =
-    λ ys rs f p q hk B.
+    λ ys rs f hk B.
+    let p = B .incoming in
+    let q = B .channel in
     let d = c .before .before .before .before .before .args .d in
     equal-clause d ys rs f _ (p .cells) (q .cells) hk (is-few ys _ (B .erased) (c .before .if1 .taken))
     (sym (c .before .before .before .before .cell-at .ensures .1 (size d) ys p) ∙ c .if2 .taken ∙ c .before .before .before .cell-at2 .ensures .1 (size d) rs q)
 
 returns-2 : tie.Need-returns-2
 returns-2 c =
-    λ ys rs f p q hk B.
+    λ ys rs f hk B.
+    let p = B .incoming in
+    let q = B .channel in
     let d = c .before .before .before .before .before .before .before .args .d in
     let e = c .before .before .before .before .before .cell-at2 .ensures .1 (size d) rs q in
     crowded-clause d ys rs f _ (p .cells) (q .cells) hk (is-few ys _ (B .erased) (c .before .before .before .if1 .taken))
@@ -46,7 +53,9 @@ returns-2 c =
 
 returns-3 : tie.Need-returns-3
 returns-3 c =
-    λ ys rs f p q hk B.
+    λ ys rs f hk B.
+    let p = B .incoming in
+    let q = B .channel in
     let d = c .before .before .before .before .before .before .before .before .before .before .args .d in
     let few = is-few ys _ (B .erased) (c .before .before .before .before .before .before .if1 .taken) in
     let e = c .before .before .before .before .before .before .before .before .cell-at2 .ensures .1 (size d) rs q in
@@ -58,14 +67,18 @@ returns-3 c =
 
 returns-4 : tie.Need-returns-4
 returns-4 c =
-    λ ys rs f p q hk B.
+    λ ys rs f hk B.
+    let p = B .incoming in
+    let q = B .channel in
     let d = c .before .before .before .before .before .before .args .d in
     many-clause d ys rs f _ (p .cells) (q .cells) hk (is-many ys _ (B .erased) (c .before .before .if1 .left)) true
     (rw (B .erased, c .before .before .before .before .before .cell-at .ensures .1 (size d) ys p, c .before .before .before .before .cell-at2 .ensures .1 (size d) rs q) at (sym (c .before .fresh .ensures) ∙ c .if4 .taken))
 
 returns-5 : tie.Need-returns-5
 returns-5 c =
-    λ ys rs f p q hk B.
+    λ ys rs f hk B.
+    let p = B .incoming in
+    let q = B .channel in
     let d = c .before .before .before .before .before .before .args .d in
     many-clause d ys rs f _ (p .cells) (q .cells) hk (is-many ys _ (B .erased) (c .before .before .if1 .left)) false
     (rw (B .erased, c .before .before .before .before .before .cell-at .ensures .1 (size d) ys p, c .before .before .before .before .cell-at2 .ensures .1 (size d) rs q) at (sym (c .before .fresh .ensures) ∙ c .if4 .left))
@@ -76,6 +89,7 @@ clause-at-spec =
     (tie.spec
     cell-at-requires
     cell-at-requires-2
+    add-if3
     seen-at-requires
     seen-at-requires-2
     by-reach-requires

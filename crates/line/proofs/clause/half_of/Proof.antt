@@ -3,13 +3,12 @@
 use borrow.Author.Needs.{needs}
 use Rattle.degree.specs.Degree.{size}
 use Rattle.line.specs.Cells.{filled}
-use Rattle.line.proofs.Packing.{as-line, line-is}
 use Rattle.line.proofs.Reaching.{word-of}
 use Rattle.line.proofs.clause.half_of.Statement.{statement}
 use Rattle.line.proofs.clause.half_of.Tie as tie
 
-new-requires : tie.Need-new-requires
-new-requires c κs = search needs
+full-requires : tie.Need-full-requires
+full-requires c κs = search needs
 
 count-differences-requires : tie.Need-count-differences-requires
 count-differences-requires c κs = search needs
@@ -17,7 +16,8 @@ count-differences-requires c κs = search needs
 returns : tie.Need-returns
 returns c =
     λ ys rs f s p q l.
-    record { before = p; channel = q; tried = l; far = λ e h. c .count-differences .ensures (size (c .before .before .args .d)) (filled s ys f) e (rw (line-is (c .before .new .ensures)) (as-line p)) (word-of l e h) }
+    let n = size (c .before .before .args .d) in
+    record { before = p; channel = q; tried = l; far = λ e h. c .count-differences .ensures n (filled s ys f) e (c .before .full .ensures n (filled s ys f) p) (word-of l e h) }
 
 pub half-of-spec : {M : Type 1} → statement M
-half-of-spec = tie.close (tie.spec new-requires count-differences-requires returns)
+half-of-spec = tie.close (tie.spec full-requires count-differences-requires returns)

@@ -8,6 +8,7 @@ use Rattle.degree.specs.Degree.{size}
 use Rattle.line.specs.Cells.{cell, filled}
 use Rattle.line.specs.Decoding.{replaced}
 use Rattle.line.specs.Packed.{PacksWord}
+use Rattle.line.specs.Word.{value}
 use Rattle.line.proofs.Reaching.{channel-bit, reach-at, value-at, same-at}
 use Rattle.line.proofs.clause.seen_at.Statement.{statement}
 use Rattle.line.proofs.clause.seen_at.Tie as tie
@@ -37,7 +38,7 @@ returns c =
     let now : c .before .before .before .word-cell2 .result ≡ cell (filled s (replaced ys rs (a .k)) f) (a .k) =
     c .before .before .before .word-cell2 .ensures .1 n (filled s rs f) (H .channel) ∙ channel-bit (a .d) ys rs f (a .k) ly lr hk s in
     let own = c .before .before .word-cell3 .result in
-    let is-own : (x : List ℕ) → PacksWord n x (a .h .tried .word) → own ≡ cell x (a .k) = c .before .before .word-cell3 .ensures .1 n in
+    let is-own : (x : List ℕ) → PacksWord n x (value (a .h .tried .word)) → own ≡ cell x (a .k) = c .before .before .word-cell3 .ensures .1 n in
     record {
       reach = c .before .reaches .ensures ∙ rw (before, now) (reach-at (a .d) ys rs f (a .k) ly lr hk s (a .h) H own is-own);
       same = same-at (a .d) ys rs f (a .k) s before now;

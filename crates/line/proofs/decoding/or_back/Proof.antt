@@ -2,18 +2,17 @@
 -- Assumes nothing.
 use borrow.Author.Needs.{needs}
 use Rattle.line.proofs.Choosing.{found-back, failed-back}
-use Rattle.line.proofs.Packing.{line-is}
 use Rattle.line.proofs.decoding.or_back.Statement.{statement}
 use Rattle.line.proofs.decoding.or_back.Tie as tie
 
-new-requires : tie.Need-new-requires
-new-requires c κs = search needs
+full-requires : tie.Need-full-requires
+full-requires c κs = search needs
 
 returns : tie.Need-returns
-returns c = λ n ys p h l. rw (line-is (c .new .ensures)) (found-back ys h (c .before .if1 .taken) l)
+returns c = λ n ys p h l. found-back ys h (c .before .if1 .taken) l (c .full .ensures n)
 
 returns-2 : tie.Need-returns-2
 returns-2 c = λ n ys p h l. failed-back ys h (c .if1 .left) l
 
 pub or-back-spec : {M : Type 1} → statement M
-or-back-spec = tie.close (tie.spec new-requires returns returns-2)
+or-back-spec = tie.close (tie.spec full-requires returns returns-2)

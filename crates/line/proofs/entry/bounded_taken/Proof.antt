@@ -1,10 +1,9 @@
 -- `line::entry::bounded_taken` meets its contract: the word is packed, tried, and made to hold what was found.
 -- Assumes nothing.
 use borrow.Author.Needs.{needs}
-use Rattle.line.specs.declared.side.Side.the-variants.{One}
 use Rattle.line.proofs.CellLaws.{word-line}
+use Rattle.line.proofs.Packing.{as-word}
 use Rattle.line.proofs.RowLaws.{packable, sized}
-use Rattle.line.proofs.EntryLaws.{filled-full}
 use Rattle.line.proofs.entry.bounded_taken.Statement.{statement}
 use Rattle.line.proofs.entry.bounded_taken.Tie as tie
 
@@ -14,11 +13,8 @@ line-tables-requires c κs = search needs
 pack-requires : tie.Need-pack-requires
 pack-requires c κs = let s = c .before .before .before in packable (s .args .d) (word-line (s .pre))
 
-fill-requires : tie.Need-fill-requires
-fill-requires c κs = search needs
-
-array-read-counted : tie.Need-array-read-counted
-array-read-counted c = search needs
+ones-of-requires : tie.Need-ones-of-requires
+ones-of-requires c κs = search needs
 
 counted-requires : tie.Need-counted-requires
 counted-requires c κs = search needs
@@ -37,20 +33,8 @@ returns c =
     let t = a .before .before in
     let k = t .before .before .before in
     let s = k .before .before .before .before in
-    let w = s .args .word .now in
     let y = sized (s .pre .long) (k .pack .ensures) in
-    let full = rw (filled-full One w 0 (s .pre .small)) at (t .before .before .fill .ensures _ w y One) in
-    a .answer-in .ensures _ _ y (t .counted .ensures .1 w full)
+    a .answer-in .ensures _ _ y (t .counted .ensures .1 _ (as-word (t .before .before .ones-of .ensures) (s .pre .small) y))
 
 pub bounded-taken-spec : {M : Type 1} → statement M
-bounded-taken-spec =
-    tie.close
-    (tie.spec
-    line-tables-requires
-    pack-requires
-    fill-requires
-    array-read-counted
-    counted-requires
-    answer-in-requires
-    same-length
-    returns)
+bounded-taken-spec = tie.close (tie.spec line-tables-requires pack-requires ones-of-requires counted-requires answer-in-requires same-length returns)

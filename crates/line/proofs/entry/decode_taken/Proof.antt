@@ -11,12 +11,15 @@ line-tables-requires c κs = search needs
 pack-requires : tie.Need-pack-requires
 pack-requires c κs = let s = c .before .before .before in packable (s .args .d) (s .pre)
 
+of-number-requires : tie.Need-of-number-requires
+of-number-requires c κs = search needs
+
 try-packed-requires : tie.Need-try-packed-requires
 try-packed-requires c κs = search needs
 
 answer-in-requires : tie.Need-answer-in-requires
 answer-in-requires c κs =
-    let s = c .before .before .before .before .before .before .before in
+    let s = c .before .before .before .before .before .before .before .before in
     packable (s .args .d) (s .pre) .1
 
 same-length : tie.Need-same-length
@@ -26,18 +29,11 @@ returns : tie.Need-returns
 returns c =
     let a = c .before .before in
     let t = a .before .before in
-    let k = t .before .before in
+    let f = t .before .before in
+    let k = f .before in
     let s = k .before .before .before .before in
     let y = sized (s .pre .long) (k .pack .ensures) in
-    a .answer-in .ensures _ _ y (t .try-packed .ensures .1 _ y .0)
+    a .answer-in .ensures _ _ y (rw (f .of-number .ensures) at (t .try-packed .ensures .1 _ y .0))
 
 pub decode-taken-spec : {M : Type 1} → statement M
-decode-taken-spec =
-    tie.close
-    (tie.spec
-    line-tables-requires
-    pack-requires
-    try-packed-requires
-    answer-in-requires
-    same-length
-    returns)
+decode-taken-spec = tie.close (tie.spec line-tables-requires pack-requires of-number-requires try-packed-requires answer-in-requires same-length returns)

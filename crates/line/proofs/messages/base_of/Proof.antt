@@ -1,10 +1,11 @@
--- `line::messages::base_of` meets its contract: with 6 or more erasures the messages start from the channel line.
+-- `line::messages::base_of` meets its contract: with as many erasures as the designed distance or more the messages start from the channel line.
 -- Assumes nothing.
-use mathlib.Core.Path.{_≡_, sym, _∙_}
+use mathlib.Core.Path.{_≡_, refl, sym, _∙_}
 use mathlib.Core.Bool.{true≢false}
 use native.Mathlib.Omega.{arith}
 use borrow.Author.Needs.{needs}
 use Rattle.degree.specs.Degree.{size}
+use Rattle.line.specs.Word.{value}
 use Rattle.line.proofs.Choosing.{is-few, is-many}
 use Rattle.line.proofs.Starting.{many-start}
 use Rattle.line.proofs.messages.base_of.Statement.{statement}
@@ -39,8 +40,11 @@ returns-2 c =
           let e = c .before .before .before .count-erasures .ensures .1 (size (a .d)) ys p in
           let many = is-many ys _ e (c .before .before .if1 .left) in
           record {
+            incoming = p;
+            channel = q;
+            filling = refl;
             erased = e;
-            own = many-start (a .d) ys (a .filling) rs many q;
+            own = many-start (a .d) ys (value (a .filling)) rs many q;
             one = λ few. absurd (true≢false (sym few ∙ many));
             two = λ few. absurd (true≢false (sym few ∙ many));
             count = rw many;

@@ -15,9 +15,9 @@ returns : tie.Need-returns
 returns c =
     let a = c .before .before .args in (
       c .settle .ensures .0,
-      λ ys rs p q hk B.
-          let e = c .before .clause-at .ensures ys rs (a .filling) p q hk B in
-          settled-message p q hk B (a .count) e (c .settle .ensures .1 ys rs p q hk B e),
+      λ ys rs f hk B.
+          let e = c .before .clause-at .ensures ys rs f hk B in
+          settled-message hk B (a .count) e (c .settle .ensures .1 ys rs f hk B e),
     )
 
 pub message-at-spec : {M : Type 1} → statement M

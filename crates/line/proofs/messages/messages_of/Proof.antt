@@ -1,26 +1,25 @@
 -- `line::messages::messages_of` meets its contract: the cells that are not left in the mask hold their messages, and the count lacks the costs of those that are.
 -- Assumes nothing.
-use mathlib.Core.Path.{_≡_, subst}
+use mathlib.Core.Path.{subst}
 use mathlib.Core.List.{List}
-use Prim.Native.Nat.{ℕ, _+_, _-_, _*_, _^_, _≤_, _<_}
-use native.Mathlib.Nat.{lt-of-le-of-lt}
+use Prim.Native.Nat.{ℕ, _+_, _-_, _*_, _≤_}
 use native.Mathlib.Omega.{arith}
-use lib.Bits.{and-le-l, and-le-r}
+use lib.Bits.{and-le-r}
 use borrow.Author.Needs.{needs}
-use Rattle.laws.proofs.Masks.{sumMask, mask-le, mask-turn, lowest}
+use Rattle.laws.proofs.Masks.{sumMask, mask-le}
 use Rattle.degree.specs.Degree.{size}
-use Rattle.line.specs.Packed.{Packs}
-use Rattle.line.proofs.Walking.{Walk, walk-start, walk-turn, walk-end}
+use Rattle.line.specs.Fillings.{Based}
+use Rattle.line.specs.Word.{value, width}
+use Rattle.line.proofs.Walking.{Walk, walk-start, walk-turn, walk-end, some-left, none-left, mask-next}
 use Rattle.line.proofs.messages.messages_of.Statement.{statement}
 use Rattle.line.proofs.messages.messages_of.Tie as tie
 
 abbrev Inv-loop : tie.InvT-loop
-Inv-loop d y r filling tables b line₀ count₀ left₀ line count left =
-    (left < 2 ^ 64) × (count + 2 * sumMask left (λ i. 1) 64 ≤ 130)
-    × ((ys rs : List ℕ) → Packs (size d) ys y → Packs (size d) rs r → Walk d ys rs filling line count left)
+Inv-loop d tables b line₀ count₀ left₀ line count left =
+    (count + 2 * sumMask (value left) (λ i. 1) width ≤ 130) × ((ys rs : List ℕ) (f : ℕ) → Based d ys rs f b → Walk d ys rs f line count (value left))
 
 abbrev μ-loop : tie.MeasureT-loop
-μ-loop d y r filling tables b line₀ count₀ left₀ line count left = left
+μ-loop d tables b line₀ count₀ left₀ line count left = value left
 
 base-of-requires : tie.Need-base-of-requires Inv-loop μ-loop
 base-of-requires c κs = search needs
@@ -32,59 +31,56 @@ loop-holds : tie.Need-loop-holds Inv-loop μ-loop
 loop-holds c =
     let a = c .before .before .before .args in
     let b = c .before .before .base-of .ensures in (
-      search needs,
-      omega (arith, b .0, mask-le (c .left-of .result) 64),
-      λ ys rs p q.
-          let B = b .1 ys rs p q in
-          walk-start (a .d) ys rs (a .filling) p q B (c .left-of .ensures ys rs (a .filling) p q B),
+      omega (arith, b .0, mask-le (value (c .left-of .result)) width),
+      λ ys rs f B. walk-start (a .d) ys rs f (B .incoming) (B .channel) B (c .left-of .ensures ys rs f B),
     )
+
+is-zero-requires : tie.Need-is-zero-requires Inv-loop μ-loop
+is-zero-requires c κs = tt
+
+lowest-requires : tie.Need-lowest-requires Inv-loop μ-loop
+lowest-requires c κs = some-left (c .before .is-zero .ensures) (c .if1 .taken)
 
 message-at-requires : tie.Need-message-at-requires Inv-loop μ-loop
 message-at-requires c κs =
-    let l = c .before .loop in
-    (lowest 64 (l .left) (c .loop-test .taken) (l .inv .0) .0, omega (arith, l .inv .1), c .before .before .before .before .before .pre)
+    (c .lowest .ensures .0, omega (arith, c .before .before .before .loop .inv .0), c .before .before .before .before .before .before .before .pre)
 
 put-requires : tie.Need-put-requires Inv-loop μ-loop
-put-requires c κs = lowest 64 (c .before .before .loop .left) (c .before .loop-test .taken) (c .before .before .loop .inv .0) .0
+put-requires c κs = c .before .lowest .ensures .0
 
-sub-left : tie.Need-sub-left Inv-loop μ-loop
-sub-left c = omega (arith, c .before .before .loop-test .taken)
+rest-requires : tie.Need-rest-requires Inv-loop μ-loop
+rest-requires c κs = some-left (c .before .before .before .before .is-zero .ensures) (c .before .before .before .if1 .taken)
 
 loop-less : tie.Need-loop-less Inv-loop μ-loop
-loop-less c = let l = c .before .before .before .loop in omega (arith, and-le-r (l .left) (l .left - 1), c .before .before .loop-test .taken)
+loop-less c =
+    let v = value (c .before .before .before .before .before .before .loop .left) in
+    let z = some-left {v = v} (c .before .before .before .before .before .is-zero .ensures) (c .before .before .before .before .if1 .taken) in
+    omega (arith, c .rest .ensures, and-le-r v (v - 1), z)
 
 loop-again : tie.Need-loop-again Inv-loop μ-loop
 loop-again c =
-    let l = c .before .before .before .loop in
-    let a = c .before .before .before .before .before .before .before .args in
-    let z = c .before .before .loop-test .taken in
-    let h = l .inv .0 in
-    let m = c .before .message-at .ensures in (
-      lt-of-le-of-lt (and-le-l (l .left) (l .left - 1)) h,
-      omega (arith, m .0, l .inv .1, mask-turn 64 (l .left) (λ i. 1) 64 z h (lowest 64 (l .left) z h .0)),
-      λ ys rs p q.
-          walk-turn (a .d) ys rs (a .filling) p q z h (l .inv .2 ys rs p q)
-          (λ hk. m .1 ys rs p q hk (c .before .before .before .before .before .before .base-of .ensures .1 ys rs p q)) (λ cs w. c .put .ensures (size (a .d)) cs w),
+    let l = c .before .before .before .before .before .before .loop in
+    let v = value (l .left) in
+    let a = c .before .before .before .before .before .before .before .before .before .before .args in
+    let z = some-left {v = v} (c .before .before .before .before .before .is-zero .ensures) (c .before .before .before .before .if1 .taken) in
+    let k = c .before .before .before .lowest .ensures in
+    let m = c .before .before .message-at .ensures in (
+      mask-next (l .count) _ (k .2) z (k .0) (k .1) (c .rest .ensures) (m .0) (l .inv .0),
+      λ ys rs f B.
+          walk-turn (a .d) ys rs f (B .incoming) (B .channel) z (k .2) (k .1) (c .rest .ensures) (l .inv .1 ys rs f B) (λ hk. m .1 ys rs f hk B) (λ cs w. c .before .put .ensures (size (a .d)) cs w),
     )
 
 returns : tie.Need-returns Inv-loop μ-loop
 returns c =
-    let a = c .before .before .before .before .before .args in
-    let l = c .before .loop in
-    λ ys rs p q. walk-end (a .d) ys rs (a .filling) p q (subst (Walk (a .d) ys rs (a .filling) (l .line) (l .count)) (omega arith) (l .inv .2 ys rs p q))
+    let b = c .before .before .before .before .before in
+    let a = b .before .args in
+    let l = c .before .before .loop in
+    let z = none-left (c .before .is-zero .ensures) (c .if1 .left) in (
+      omega (arith, l .inv .0),
+      λ ys rs p q.
+          let f = value (a .filling) in
+          walk-end (a .d) ys rs f p q (subst (Walk (a .d) ys rs f (l .line) (l .count)) z (l .inv .1 ys rs f (b .base-of .ensures .1 ys rs p q))),
+    )
 
 pub messages-of-spec : {M : Type 1} → statement M
-messages-of-spec =
-    tie.close
-    (tie.spec
-    Inv-loop
-    μ-loop
-    base-of-requires
-    left-of-requires
-    loop-holds
-    message-at-requires
-    put-requires
-    sub-left
-    loop-less
-    loop-again
-    returns)
+messages-of-spec = tie.close (tie.spec Inv-loop μ-loop base-of-requires left-of-requires loop-holds is-zero-requires lowest-requires message-at-requires put-requires rest-requires loop-less loop-again returns)

@@ -7,6 +7,7 @@ use Rattle.line.specs.Cells.{filled}
 use Rattle.line.specs.Decoding.{replaced}
 use Rattle.line.specs.Clauses.{settled}
 use Rattle.line.specs.Packed.{PacksWord}
+use Rattle.line.specs.Word.{value}
 use Rattle.line.proofs.messages.open_cell.Statement.{statement}
 use Rattle.line.proofs.messages.open_cell.Tie as tie
 
@@ -37,13 +38,15 @@ returns c =
     let a = c .before .before .before .before .before .before .before .args in
     let n = size (a .d) in (
       c .before .before .before .before .counted .ensures .0,
-      λ ys rs ly lr hk z e H K.
+      λ ys rs f hk B few z e.
           let zs = replaced ys rs (a .k) in
-          let w : PacksWord n (filled (a .s) zs (a .filling)) (c .before .before .before .before .before .word-of .result) =
-          rw (c .before .before .before .before .before .word-of .ensures) (c .before .before .before .before .before .before .fill .ensures n zs z (a .s)) in
-          let t = c .before .before .before .before .counted .ensures .1 (filled (a .s) zs (a .filling)) w in
-          let one = c .before .before .before .near-only .ensures ys rs (a .filling) One ly lr hk e H in
-          let two = c .before .before .near-only2 .ensures ys rs (a .filling) Two ly lr hk e K in
+          let ly = B .incoming .cells in
+          let lr = B .channel .cells in
+          let w : PacksWord n (filled (a .s) zs f) (value (c .before .before .before .before .before .word-of .result)) =
+          rw (c .before .before .before .before .before .word-of .ensures) (rw (B .filling) at (c .before .before .before .before .before .before .fill .ensures n zs z (a .s))) in
+          let t = c .before .before .before .before .counted .ensures .1 (filled (a .s) zs f) w in
+          let one = c .before .before .before .near-only .ensures ys rs f One ly lr hk e (B .one few) in
+          let two = c .before .before .near-only2 .ensures ys rs f Two ly lr hk e (B .two few) in
           c .answer-at .ensures n zs _ z (c .before .choose-with .ensures n zs _ _ _ z t one two),
     )
 

@@ -11,26 +11,27 @@ use Rattle.line.specs.Cells.{cell}
 use Rattle.line.specs.Decoding.{replaced}
 use Rattle.line.specs.Clauses.{settled}
 use Rattle.line.specs.Packed.{Packs}
+use Rattle.line.specs.Fillings.{Based}
 use Rattle.line.proofs.Settling.{replaced-line, equal-cell, tried-at, few-of, fresh-count}
 use Rattle.line.proofs.messages.settle.Statement.{statement}
 use Rattle.line.proofs.messages.settle.Tie as tie
 
 -- the channel's cell, and the replaced line
-channel : (c : tie.After-put) (rs : List ℕ) → Packs (size (c .before .before .args .d)) rs (c .before .before .args .r) → c .before .cell-at .result ≡ cell rs (c .before .before .args .k)
-channel c rs q = c .before .cell-at .ensures .1 _ rs q
+module _ (c : tie.After-put) {ys rs : List ℕ} {f : ℕ} (hk : c .before .before .args .k < size (c .before .before .args .d))
+    (B : Based (c .before .before .args .d) ys rs f (c .before .before .args .b)) where
+  channel : c .before .cell-at .result ≡ cell rs (c .before .before .args .k)
+  channel = c .before .cell-at .ensures .1 _ rs (B .channel)
 
-module _ (c : tie.After-put) {ys rs : List ℕ} (p : Packs (size (c .before .before .args .d)) ys (c .before .before .args .y))
-    (q : Packs (size (c .before .before .args .d)) rs (c .before .before .args .r)) (hk : c .before .before .args .k < size (c .before .before .args .d)) where
   line : Packs (size (c .before .before .args .d)) (replaced ys rs (c .before .before .args .k)) (c .put .result)
-  line = replaced-line p q hk (channel c rs q) (c .put .ensures _ ys p)
+  line = replaced-line (B .incoming) (B .channel) hk channel (c .put .ensures _ ys (B .incoming))
 
 returns : tie.Need-returns
 unfolding settled
 returns c = (
   omega (arith, c .at-no-cost .ensures .1),
-  λ ys rs p q hk B g.
+  λ ys rs f hk B g.
       let t = c .before .before .enum-told .given .1 in
-      let own = equal-cell p q hk B (sym t ∙ g) (c .before .cell-at2 .ensures .1 _ _ (B .own)) in
+      let own = equal-cell hk B (sym t ∙ g) (c .before .cell-at2 .ensures .1 _ _ (B .own)) in
       rw t (c .at-no-cost .ensures .0 ∙ own, omega (arith, c .at-no-cost .ensures .1)),
 )
 
@@ -38,7 +39,7 @@ returns-2 : tie.Need-returns-2
 unfolding settled
 returns-2 c = (
   omega (arith, c .at-no-cost2 .ensures .1),
-  λ ys rs p q hk B g.
+  λ ys rs f hk B g.
       let t = c .before .enum-told2 .given .1 in
       rw t (c .at-no-cost2 .ensures .0, omega (arith, c .at-no-cost2 .ensures .1)),
 )
@@ -47,11 +48,11 @@ returns-3 : tie.Need-returns-3
 unfolding settled
 returns-3 c = (
   omega (arith, c .at-no-cost3 .ensures .1),
-  λ ys rs p q hk B g.
+  λ ys rs f hk B g.
       let t = c .before .before .before .enum-told3 .given .1 in
       let h = sym t ∙ g in
-      let z = line (c .before .before .before .before .before) p q hk in
-      let best = c .before .before .choose .ensures _ _ _ _ z (tried-at p q hk B h refl One refl) (tried-at p q hk B h refl Two refl) in
+      let z = line (c .before .before .before .before .before) hk B in
+      let best = c .before .before .choose .ensures _ _ _ _ z (tried-at hk B h refl One refl) (tried-at hk B h refl Two refl) in
       rw t (c .at-no-cost3 .ensures .0 ∙ c .before .answer-at .ensures _ _ _ z best, omega (arith, c .at-no-cost3 .ensures .1)),
 )
 
@@ -59,20 +60,20 @@ returns-4 : tie.Need-returns-4
 unfolding settled
 returns-4 c = (
   omega (arith, c .at-no-cost4 .ensures .1),
-  λ ys rs p q hk B g.
+  λ ys rs f hk B g.
       let t = c .before .enum-told4 .given .1 in
-      rw t (c .at-no-cost4 .ensures .0 ∙ channel (c .before .before .before) rs q, omega (arith, c .at-no-cost4 .ensures .1)),
+      rw t (c .at-no-cost4 .ensures .0 ∙ channel (c .before .before .before) hk B, omega (arith, c .at-no-cost4 .ensures .1)),
 )
 
 returns-5 : tie.Need-returns-5
 unfolding settled
 returns-5 c = (
   omega (arith, c .at-no-cost5 .ensures .1),
-  λ ys rs p q hk B g.
+  λ ys rs f hk B g.
       let v = c .before .before .before .before .v .given in
       let h = sym (v .1) ∙ g in
-      let z = line (c .before .before .before .before .before .before) p q hk in
-      let found = tried-at p q hk B h refl (v .0 .0) (c .before .before .tried-of .ensures) in
+      let z = line (c .before .before .before .before .before .before) hk B in
+      let found = tried-at hk B h refl (v .0 .0) (c .before .before .tried-of .ensures) in
       rw (v .1) (c .at-no-cost5 .ensures .0 ∙ c .before .answer-at2 .ensures _ _ _ z found, omega (arith, c .at-no-cost5 .ensures .1)),
 )
 
@@ -80,11 +81,11 @@ returns-6 : tie.Need-returns-6
 unfolding settled
 returns-6 c = (
   omega (arith, c .at-no-cost6 .ensures .1),
-  λ ys rs p q hk B g.
+  λ ys rs f hk B g.
       let v = c .before .before .before .before .v2 .given in
       let h = sym (v .1) ∙ g in
-      let z = line (c .before .before .before .before .before .before) p q hk in
-      let found = tried-at p q hk B h refl (v .0 .0) (c .before .before .tried-of2 .ensures) in
+      let z = line (c .before .before .before .before .before .before) hk B in
+      let found = tried-at hk B h refl (v .0 .0) (c .before .before .tried-of2 .ensures) in
       rw (v .1) (c .at-no-cost6 .ensures .0 ∙ c .before .answer-at3 .ensures _ _ _ z found, omega (arith, c .at-no-cost6 .ensures .1)),
 )
 
@@ -92,30 +93,30 @@ returns-7 : tie.Need-returns-7
 unfolding settled
 returns-7 c = (
   omega arith,
-  λ ys rs p q hk B g.
+  λ ys rs f hk B g.
       let t = c .before .before .v3 .given .1 in
       let h = sym t ∙ g in
-      let z = line (c .before .before .before .before) p q hk in
-      rw t (c .open-cell .ensures .1 ys rs (p .cells) (q .cells) hk z (channel (c .before .before .before .before) rs q) (B .one (few-of p q hk B h refl)) (B .two (few-of p q hk B h refl)), omega arith),
+      let z = line (c .before .before .before .before) hk B in
+      rw t (c .open-cell .ensures .1 ys rs f hk B (few-of hk B h refl) z (channel (c .before .before .before .before) hk B), omega arith),
 )
 
 returns-8 : tie.Need-returns-8
 unfolding settled
 returns-8 c = (
   c .fresh-cell .ensures .0,
-  λ ys rs p q hk B g.
+  λ ys rs f hk B g.
       let t = c .before .enum-told5 .given .1 in
-      let whole = c .fresh-cell .ensures .1 _ (line (c .before .before .before) p q hk) in
-      rw t (whole .0, fresh-count p q hk B _ _ (sym t ∙ g) (whole .1)),
+      let whole = rw (B .filling) at (c .fresh-cell .ensures .1 _ (line (c .before .before .before) hk B)) in
+      rw t (whole .0, fresh-count hk B _ _ (sym t ∙ g) (whole .1)),
 )
 
 returns-9 : tie.Need-returns-9
 unfolding settled
 returns-9 c = (
   omega (arith, c .at-no-cost7 .ensures .1),
-  λ ys rs p q hk B g.
+  λ ys rs f hk B g.
       let t = c .before .enum-told6 .given .1 in
-      rw t (c .at-no-cost7 .ensures .0 ∙ channel (c .before .before .before) rs q, omega (arith, c .at-no-cost7 .ensures .1)),
+      rw t (c .at-no-cost7 .ensures .0 ∙ channel (c .before .before .before) hk B, omega (arith, c .at-no-cost7 .ensures .1)),
 )
 
 pub settle-spec : {M : Type 1} → statement M

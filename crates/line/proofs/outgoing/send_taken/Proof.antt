@@ -15,12 +15,15 @@ pack-requires c κs = let s = c .before .before .before .before in packable (s .
 pack-requires-2 : tie.Need-pack-requires-2
 pack-requires-2 c κs = let s = c .before .before .before .before .before in packable (s .args .d) (s .pre .1)
 
+of-number-requires : tie.Need-of-number-requires
+of-number-requires c κs = search needs
+
 messages-of-requires : tie.Need-messages-of-requires
 messages-of-requires c κs = search needs
 
 unpack-requires : tie.Need-unpack-requires
 unpack-requires c κs =
-    let s = c .before .before .before .before .before .before .before .before .before in
+    let s = c .before .before .before .before .before .before .before .before .before .before in
     rw (s .pre .2) (size-eights (s .args .d))
 
 same-length : tie.Need-same-length
@@ -30,21 +33,13 @@ returns : tie.Need-returns
 returns c =
     let u = c .before .before in
     let m = u .before .before in
-    let k = m .before .before in
+    let f = m .before .before in
+    let k = f .before in
     let s = k .before .before .before .before .before .before in
     let y = sized (s .pre .0 .long) (k .before .pack .ensures) in
     let r = sized (s .pre .1 .long) (k .pack2 .ensures) in
-    let sent = m .messages-of .ensures _ _ y r in
+    let sent = rw (f .of-number .ensures) at (m .messages-of .ensures .1 _ _ y r) in
     (sent .1, u .unpack .ensures .1 _ (sized (sym (s .pre .2)) (sent .0)))
 
 pub send-taken-spec : {M : Type 1} → statement M
-send-taken-spec =
-    tie.close
-    (tie.spec
-    line-tables-requires
-    pack-requires
-    pack-requires-2
-    messages-of-requires
-    unpack-requires
-    same-length
-    returns)
+send-taken-spec = tie.close (tie.spec line-tables-requires pack-requires pack-requires-2 of-number-requires messages-of-requires unpack-requires same-length returns)

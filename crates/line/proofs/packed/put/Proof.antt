@@ -14,7 +14,7 @@ put-bit-requires-2 c κs = search needs
 returns : tie.Need-returns
 returns c =
     let a = c .before .before .args in
-    λ n cs p h g. put-cell (a .k) (a .c) p h g _ _ (c .before .put-bit .ensures) (c .put-bit2 .ensures)
+    λ n cs p h g. put-cell (a .k) (a .c) p h g (c .before .put-bit .ensures) (c .put-bit2 .ensures)
 
 pub put-spec : {M : Type 1} → statement M
 put-spec = tie.close (tie.spec put-bit-requires put-bit-requires-2 returns)

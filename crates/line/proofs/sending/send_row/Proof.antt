@@ -19,9 +19,10 @@ returns c =
     let m = u .before .before in
     record {
       long = u .update-row .ensures .long;
-      cells = λ rs y p. u .update-row .ensures .cells _ _ y (m .messages-of .ensures _ rs y p .0);
-      line = λ rs y p. m .messages-of .ensures _ rs y p .0;
-      count = λ rs y p. m .messages-of .ensures _ rs y p .1;
+      cells = λ rs y p. u .update-row .ensures .cells _ _ y (m .messages-of .ensures .1 _ rs y p .0);
+      line = λ rs y p. m .messages-of .ensures .1 _ rs y p .0;
+      count = λ rs y p. m .messages-of .ensures .1 _ rs y p .1;
+      most = m .messages-of .ensures .0;
     }
 
 pub send-row-spec : {M : Type 1} → statement M
