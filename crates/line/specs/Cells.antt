@@ -38,10 +38,11 @@ unfoldable pub erasures : List ℕ → ℕ
 erasures [] = 0
 erasures (c ∷ cs) = bit (isErased c) + erasures cs
 
--- the designed distance, with which line decoding fails, and the radius of bounded-distance decoding
+-- the designed distance: with so many unsure cells line decoding fails
 abbrev pub designedDistance : ℕ
 designedDistance = 6
 
+-- the radius of bounded-distance decoding
 abbrev pub radius : ℕ
 radius = 2
 

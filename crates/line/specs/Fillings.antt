@@ -57,7 +57,7 @@ module _ (d : Degree) (ys rs : List ℕ) (f : ℕ) where
     pub small : m < 2 ^ size d
     pub rest : (k : ℕ) → k < size d → bitAt m k ≡ 0 → (cell start k ≡ message (bounded d) ys rs f k) × (cost (clause (bounded d) ys rs f k) ≡ 0)
 
--- a codeword that was found stays in reach at cell k: it lies within the radius, or the filled bit is unchanged, or the change does
+-- a codeword that was found stays in reach at cell k: it lies nearer than the radius, or the filled bit is unchanged, or the change does
 -- not lead away from it
 abbrev pub stays : Half → ℕ → Bool
 stays h k =
