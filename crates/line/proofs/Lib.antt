@@ -12,6 +12,7 @@ pub mod Mending
 pub mod LineLaw
 pub mod Choosing
 pub mod Tries
+pub mod Refusing
 pub mod EntryLaws
 pub mod ClauseLaws
 pub mod CountLaws
@@ -22,6 +23,5 @@ pub mod Starting
 pub mod Masking
 pub mod OneCodeword
 pub mod Walking
-pub mod MessageLaws
 pub mod LineEncoding
 pub mod Bounds

@@ -2,17 +2,18 @@
 -- refused calls alike.
 use mathlib.Core.Path.{_≡_}
 use mathlib.Core.Bool.{Bool, true, false}
-use mathlib.Core.List.{List}
+use mathlib.Core.List.{List, []}
 use Prim.Native.Nat.{ℕ}
-use Rattle.line.specs.declared.refusals.Call.{Call}
-use Rattle.line.specs.declared.refusals.Call.the-variants.{Taken, Refused}
 use Rattle.line.specs.declared.entry.LineAnswer.{LineAnswer}
 use Rattle.line.specs.declared.entry.LineAnswer.the-variants as line
+use Rattle.line.specs.declared.entry.MessagesAnswer.{MessagesAnswer}
+use Rattle.line.specs.declared.entry.MessagesAnswer.the-variants as sent
 use Rattle.line.specs.Bounded.{Answer, Found, Failed, orBack, bounded}
-use Rattle.line.specs.Decoding.{decode}
-use Rattle.line.specs.Refusals.{number, refusalIn, lineCall}
+use Rattle.line.specs.Decoding.{decode, messages}
+use Rattle.line.specs.Clauses.{count as countBy}
+use Rattle.line.specs.Refusals.{number, refusal, given, lineTests, messagesTests}
 
--- ---- the answers in document 01's numbers: the refusal, 0 for none; found, yes or no
+-- ---- the answers in document 01's numbers: the refusal, 0 for none; found, yes or no; the count
 
 abbrev pub refusalOf : LineAnswer → ℕ
 refusalOf (line.Refused why) = number why
@@ -24,21 +25,17 @@ foundOf (line.Refused why) = false
 foundOf line.Failed = false
 foundOf line.Found = true
 
--- ---- what a call asks for; one that is turned down finds nothing
-
 abbrev pub isFound : Answer → Bool
 isFound (Found c) = true
 isFound Failed = false
 
--- "Bounded distance: the one codeword within 2 of a full word. It fails exactly if no codeword lies within 2."
-abbrev pub boundedFor : Call → List ℕ → Answer
-boundedFor (Taken d) word = bounded d word
-boundedFor (Refused why) word = Failed
+abbrev pub sentRefusal : MessagesAnswer → ℕ
+sentRefusal (sent.Refused why) = number why
+sentRefusal (sent.Sent n) = 0
 
--- "Line decoding: with 6 or more unsure cells it fails. Otherwise both words are decoded."
-abbrev pub decodeFor : Call → List ℕ → ℕ → Answer
-decodeFor (Taken d) cells filling = decode (bounded d) cells filling
-decodeFor (Refused why) cells filling = Failed
+abbrev pub sentCount : MessagesAnswer → ℕ
+sentCount (sent.Refused why) = 0
+sentCount (sent.Sent n) = n
 
 -- ---- the promises
 
@@ -48,12 +45,21 @@ pub record Answered (no : ℕ) (a : Answer) (before after : List ℕ) (r : LineA
   pub found : foundOf r ≡ isFound a
   pub cells : after ≡ orBack before a
 
--- bounded-distance decoding of a word, whose cells are 0 or 1
+-- bounded-distance decoding of a word, whose cells are 0 or 1: "the one codeword within 2 of a full word. It fails exactly if
+-- no codeword lies within 2." A refused call finds nothing.
 abbrev pub BoundedDone : (degree : ℕ) (before after : List ℕ) → LineAnswer → Type 0
 BoundedDone degree before after =
-    let call = lineCall 1 degree before in Answered (refusalIn call) (boundedFor call before) before after
+    let tests = lineTests 1 degree before [] in
+    Answered (refusal tests) (given degree tests (λ d. bounded d before) Failed) before after
 
--- decoding of a line, whose cells are 0, 1 or 2
+-- decoding of a line, whose cells are 0, 1 or 2: "with 6 or more unsure cells it fails. Otherwise both words are decoded."
 abbrev pub DecodeDone : (degree filling : ℕ) (before after : List ℕ) → LineAnswer → Type 0
 DecodeDone degree filling before after =
-    let call = lineCall 2 degree before in Answered (refusalIn call) (decodeFor call before filling) before after
+    let tests = lineTests 2 degree before [] in
+    Answered (refusal tests) (given degree tests (λ d. decode (bounded d) before filling) Failed) before after
+
+-- the messages of a line, and its count; a refused call sends nothing and counts nothing
+pub record MessagesDone (degree : ℕ) (incoming channel : List ℕ) (filling : ℕ) (before after : List ℕ) (r : MessagesAnswer) : Type 0 where
+  pub refusal : sentRefusal r ≡ refusal (messagesTests degree incoming channel before [])
+  pub count : sentCount r ≡ given degree (messagesTests degree incoming channel before []) (λ d. countBy (bounded d) incoming channel filling) 0
+  pub cells : after ≡ given degree (messagesTests degree incoming channel before []) (λ d. messages (bounded d) incoming channel filling) before

@@ -12,8 +12,6 @@ pub mod Entries
 pub mod Clauses
 pub mod Fillings
 pub mod SentRows
-pub mod MessageRefusals
-pub mod MessageEntries
 pub mod Encoding
 -- passed on of the field part, for the crate above
 unfoldable pub use Rattle.field.specs.Field.{double, timesPower}

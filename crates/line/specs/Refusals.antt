@@ -1,14 +1,15 @@
 -- When a call is turned down. Document 01: tests run in number order; the first that applies is returned with count 0, and
--- every lent cell keeps its value. The entries on lines have tests 1, 3 and 4; test 2 is of the decoding of an array.
-use mathlib.Core.Bool.{Bool, true, false, _&&_}
+-- every lent cell keeps its value. An entry omits a test for something it isn't given.
+use mathlib.Core.Path.{_≡_}
+use mathlib.Core.Bool.{Bool, true, false, cond, not, _&&_, _||_}
 use mathlib.Core.List.{List, [], _∷_}
-use Prim.Native.Nat.{ℕ}
+use Prim.Native.Nat.{ℕ, _^_}
 use lib.Dec.{eqb, leb}
 use lib.ListN.{length}
 use Rattle.degree.specs.declared.Degree.{Degree}
 use Rattle.degree.specs.declared.Named.{Named}
 use Rattle.degree.specs.declared.Named.the-variants.{Known, Unknown}
-use Rattle.degree.specs.Degree.{size, named}
+use Rattle.degree.specs.Degree.{named}
 use Rattle.line.specs.declared.refusals.Refusal.{Refusal}
 use Rattle.line.specs.declared.refusals.Refusal.the-variants.{BadDegree, BadIterations, BadLength, BadCell}
 use Rattle.line.specs.declared.refusals.Call.{Call}
@@ -21,31 +22,67 @@ number BadIterations = 2
 number BadLength = 3
 number BadCell = 4
 
--- the number of the test that turned a call down, 0 for none
-abbrev pub refusalIn : Call → ℕ
-refusalIn (Refused why) = number why
-refusalIn (Taken d) = 0
+-- ---- one table for all entries: a test is its number and whether it applies
 
--- 3: a lent slice not of the exact length; n cells are asked for
-abbrev pub long : List ℕ → Degree → Bool
-long cells d = eqb (length cells) (size d)
+-- the number of the first test that applies, 0 for none
+abbrev pub refusal : List (ℕ × Bool) → ℕ
+refusal [] = 0
+refusal (t ∷ ts) = cond (t .1) (t .0) (refusal ts)
 
--- 4: a cell above 2, above 1 in a message or in a word for bounded-distance decoding; no cell is above the bound
+-- what is asked for where no test applies, else what a refused call gives
+abbrev pub unlessRefused : {A : Type 0} → List (ℕ × Bool) → (asked refused : A) → A
+unlessRefused tests asked refused = cond (eqb (refusal tests) 0) asked refused
+
+-- what is asked for at the degree that a number names, else the other
+abbrev pub atDegree : {A : Type 0} → Named → (asked : Degree → A) (other : A) → A
+atDegree (Known d) asked other = asked d
+atDegree Unknown asked other = other
+
+-- what a call gives: what is asked for at its degree where no test applies, else what a refused call gives
+unfoldable pub given : {A : Type 0} → (degree : ℕ) → List (ℕ × Bool) → (asked : Degree → A) (refused : A) → A
+given degree tests asked refused = unlessRefused tests (atDegree (named degree) asked refused) refused
+
+-- a call that was tested: a refused one has the number of the first test that applies; none applies to one that is taken
+abbrev pub Tested : (degree : ℕ) → List (ℕ × Bool) → Call → Type 0
+Tested degree tests (Refused why) = number why ≡ refusal tests
+Tested degree tests (Taken d) = (refusal tests ≡ 0) × (named degree ≡ Known d)
+
+-- ---- the conditions
+
+-- 1: degree not 4 or 6
+abbrev pub unnamed : ℕ → Bool
+unnamed degree = atDegree (named degree) (λ d. false) true
+
+-- 3: a lent slice not of the exact length
+abbrev pub misfit : (has asked : ℕ) → Bool
+misfit has asked = not (eqb has asked)
+
+-- one of several conditions
+abbrev pub some : List Bool → Bool
+some [] = false
+some (b ∷ bs) = b || some bs
+
+-- 4: a cell above 2 (above 1 in a message to encode or a word for bounded-distance decoding); no cell is above the bound
 unfoldable pub atMost : (bound : ℕ) → List ℕ → Bool
 atMost bound [] = true
 atMost bound (c ∷ cs) = leb c bound && atMost bound cs
 
--- the tests of lengths and of cells in their order, each with whether it is passed
-abbrev pub shaped : (length cells : Bool) → Degree → Call
-shaped true true d = Taken d
-shaped true false d = Refused BadCell
-shaped false cells d = Refused BadLength
+-- ---- the tests of the entries on lines. `more` says of further lent slices whether their length is wrong.
 
--- all tests in their order: 1 first, degree not 4 or 6
-abbrev pub tested : Named → (length : Degree → Bool) (cells : Bool) → Call
-tested Unknown length cells = Refused BadDegree
-tested (Known d) length cells = shaped (length d) cells d
+-- a call that lends one word or line of n cells, none above the bound
+unfoldable pub lineTests : (bound degree : ℕ) (cells : List ℕ) (more : List Bool) → List (ℕ × Bool)
+lineTests bound degree cells more =
+    (1, unnamed degree)
+    ∷ (3, some (misfit (length cells) (2 ^ degree) ∷ more))
+    ∷ (4, not (atMost bound cells))
+    ∷ []
 
--- a call that lends one word or line, with no cell above a bound
-unfoldable pub lineCall : (bound degree : ℕ) (cells : List ℕ) → Call
-lineCall bound degree cells = tested (named degree) (long cells) (atMost bound cells)
+-- a call that lends an incoming and a channel line, and n cells for the messages: "old cells of a slice that is only written
+-- are not tested"
+unfoldable pub messagesTests : (degree : ℕ) (incoming channel messages : List ℕ) (more : List Bool) → List (ℕ × Bool)
+messagesTests degree incoming channel messages more =
+    (1, unnamed degree)
+    ∷ (3, some (misfit (length incoming) (2 ^ degree) ∷ misfit (length channel) (2 ^ degree) ∷ misfit (length messages) (2 ^ degree) ∷ more))
+    ∷ (4, not (atMost 2 incoming))
+    ∷ (4, not (atMost 2 channel))
+    ∷ []

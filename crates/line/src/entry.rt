@@ -4,12 +4,15 @@ use crate::bounded::Tried;
 use crate::bounded::counted;
 use crate::decoding::or_back;
 use crate::decoding::try_packed;
+use crate::messages::messages_of;
 use crate::packed::Line;
 use crate::packed::ones_of;
 use crate::packed::pack;
+use crate::packed::unpack;
 use crate::refusals::Call;
 use crate::refusals::Refusal;
 use crate::refusals::line_test;
+use crate::refusals::messages_test;
 use crate::row::update_row;
 use crate::tables::line_tables;
 use crate::word::of_number;
@@ -20,15 +23,21 @@ ghost use lib.ListN.{length};
 ghost use Rattle.degree.specs.Degree.{size};
 ghost use Rattle.line.specs.Cells.{IsLine, IsWord};
 ghost use Rattle.line.specs.Bounded.{Answer, bounded};
-ghost use Rattle.line.specs.Decoding.{decode};
+ghost use Rattle.line.specs.Decoding.{decode, messages as messagesBy};
+ghost use Rattle.line.specs.Clauses.{count as countBy};
 ghost use Rattle.line.specs.Packed.{Packs};
 ghost use Rattle.line.specs.Working.{Answers};
-ghost use Rattle.line.specs.Entries.{Answered, BoundedDone, DecodeDone};
+ghost use Rattle.line.specs.Entries.{Answered, BoundedDone, DecodeDone, MessagesDone};
 
 pub enum LineAnswer {
     Refused(Refusal),
     Failed,
     Found,
+}
+
+pub enum MessagesAnswer {
+    Refused(Refusal),
+    Sent(u64),
 }
 
 // ---- one word, one line
@@ -66,6 +75,19 @@ fn decode_taken(d: Degree, cells: &mut [u8], filling: u64) -> LineAnswer
     answer_in(cells, y, t)
 }
 
+// The messages are written, the count is handed back.
+fn send_taken(d: Degree, incoming: &[u8], channel: &[u8], filling: u64, messages: &mut [u8]) -> u64
+    requires { ⌜ IsLine (size d) (now incoming) × IsLine (size d) (now channel) × (length (now messages) ≡ size d) ⌝ }
+    ensures { λ r. ⌜ (r ≡ countBy (bounded d) (now (incoming .entry)) (now (channel .entry)) filling) × (now (messages .exit) ≡ messagesBy (bounded d) (now (incoming .entry)) (now (channel .entry)) filling) ⌝ }
+{
+    let tables = line_tables(d);
+    let y = pack(incoming);
+    let r = pack(channel);
+    let sent = messages_of(d, y, r, of_number(filling), &tables);
+    unpack(sent.line, messages);
+    sent.count
+}
+
 // ---- the entries
 
 // Bounded-distance decoding of a full word, in place.
@@ -87,5 +109,22 @@ pub fn decode_line(degree: u64, cells: &mut [u8], filling: u64) -> LineAnswer
     match call {
         Call::Taken(d) => decode_taken(d, cells, filling),
         Call::Refused(why) => LineAnswer::Refused(why),
+    }
+}
+
+// The outgoing messages of a line, written to `messages`, and its count.
+pub fn line_messages(
+    degree: u64,
+    incoming: &[u8],
+    channel: &[u8],
+    filling: u64,
+    messages: &mut [u8],
+) -> MessagesAnswer
+    ensures { λ r. ⌜ MessagesDone degree (now (incoming .entry)) (now (channel .entry)) filling (now (messages .entry)) (now (messages .exit)) r ⌝ }
+{
+    let call = messages_test(degree, incoming, channel, messages);
+    match call {
+        Call::Taken(d) => MessagesAnswer::Sent(send_taken(d, incoming, channel, filling, messages)),
+        Call::Refused(why) => MessagesAnswer::Refused(why),
     }
 }

@@ -8,8 +8,7 @@ pub mod codeword; // the test of a word
 mod bounded; // bounded-distance decoding, and the one function that counts it
 pub mod decoding; // line decoding, in the order of Algorithm 1
 pub mod refusals; // when a call is turned down
-pub mod entry; // what a caller outside may use
 mod clause; // the clause that settles a cell
 pub mod messages; // the messages of a line
 pub mod sending; // a lent row of an array: packed, sent, written back
-pub mod outgoing; // the same, for the messages of a line
+pub mod entry; // what a caller outside may use

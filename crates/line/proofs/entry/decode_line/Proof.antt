@@ -1,10 +1,13 @@
 -- `line::entry::decode_line` meets its contract: a call that is taken is answered by `decode_taken`, one that is refused
 -- leaves all as it came.
 -- Assumes nothing.
-use mathlib.Core.Path.{refl, sym, _∙_}
-use native.Mathlib.Omega.{arith}
+use mathlib.Core.List.{[]}
+use Rattle.line.specs.Bounded.{bounded}
+use Rattle.line.specs.Decoding.{decode}
+use Rattle.line.specs.Refusals.{lineTests}
 use borrow.Author.Needs.{needs}
-use Rattle.line.proofs.EntryLaws.{line-taken}
+use Rattle.line.proofs.EntryLaws.{answered-taken, answered-refused}
+use Rattle.line.proofs.Refusing.{line-taken}
 use Rattle.line.proofs.entry.decode_line.Statement.{statement}
 use Rattle.line.proofs.entry.decode_line.Tie as tie
 
@@ -16,9 +19,8 @@ enum-known-call c = search needs
 
 decode-taken-requires : tie.Need-decode-taken-requires
 decode-taken-requires c κs =
-    let s = c .before .before .before .before .before .before .before in
-    line-taken 2 (s .args .degree) (s .args .cells .now) _
-    (sym (c .before .before .before .before .line-test .ensures) ∙ c .before .before .call .given .1)
+    let s = c .before .before .before .before .before .before .before .args in
+    line-taken 2 (s .degree) (s .cells .now) _ (rw (c .before .before .call .given .1) at (c .before .before .before .before .line-test .ensures))
 
 enum-known-call-2 : tie.Need-enum-known-call-2
 enum-known-call-2 c = search needs
@@ -28,15 +30,19 @@ same-length c = search needs
 
 returns : tie.Need-returns
 returns c =
-    rw (← c .before .before .before .before .before .before .before .line-test .ensures, c .before .before .before .before .before .call .given .1)
-    (c .before .before .decode-taken .ensures)
+    let q = c .before .before .before .before .before in
+    let s = q .before .before .before .before .before .args in
+    answered-taken (lineTests 2 (s .degree) (s .cells .now) []) (s .degree) (λ d. decode (bounded d) (s .cells .now) (s .filling))
+    (rw (q .call .given .1) at (q .before .before .line-test .ensures)) (c .before .before .decode-taken .ensures)
 
 same-length-2 : tie.Need-same-length-2
 same-length-2 c = search needs
 
 returns-2 : tie.Need-returns-2
 returns-2 c =
-    rw (← c .before .before .before .line-test .ensures, c .before .call2 .given .1) (record { refusal = refl; found = refl; cells = refl })
+    let s = c .before .before .before .before .before .before .args in
+    answered-refused (lineTests 2 (s .degree) (s .cells .now) []) (s .degree) (λ d. decode (bounded d) (s .cells .now) (s .filling)) _
+    (rw (c .before .call2 .given .1) at (c .before .before .before .line-test .ensures))
 
 pub decode-line-spec : {M : Type 1} → statement M
 decode-line-spec =

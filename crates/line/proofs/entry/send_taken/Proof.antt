@@ -1,10 +1,10 @@
--- `line::outgoing::send_taken` meets its contract: both lines are packed, and what is sent is unpacked.
+-- `line::entry::send_taken` meets its contract: both lines are packed, and what is sent is unpacked.
 -- Assumes nothing.
 use mathlib.Core.Path.{sym}
 use borrow.Author.Needs.{needs}
 use Rattle.line.proofs.RowLaws.{packable, size-eights, sized}
-use Rattle.line.proofs.outgoing.send_taken.Statement.{statement}
-use Rattle.line.proofs.outgoing.send_taken.Tie as tie
+use Rattle.line.proofs.entry.send_taken.Statement.{statement}
+use Rattle.line.proofs.entry.send_taken.Tie as tie
 
 line-tables-requires : tie.Need-line-tables-requires
 line-tables-requires c κs = search needs

@@ -1,0 +1,71 @@
+-- `line::entry::line_messages` meets its contract: a call that is taken is answered by `send_taken`, one that is refused leaves
+-- all as it came.
+-- Assumes nothing.
+use mathlib.Core.Path.{sym, _∙_}
+use mathlib.Core.List.{[]}
+use borrow.Author.Needs.{needs}
+use Rattle.line.specs.Bounded.{bounded}
+use Rattle.line.specs.Decoding.{messages}
+use Rattle.line.specs.Clauses.{count}
+use Rattle.line.specs.Refusals.{messagesTests}
+use Rattle.line.proofs.Refusing.{given-taken, given-refused, messages-taken}
+use Rattle.line.proofs.entry.line_messages.Statement.{statement}
+use Rattle.line.proofs.entry.line_messages.Tie as tie
+
+messages-test-requires : tie.Need-messages-test-requires
+messages-test-requires c κs = search needs
+
+enum-known-call : tie.Need-enum-known-call
+enum-known-call c = search needs
+
+send-taken-requires : tie.Need-send-taken-requires
+send-taken-requires c κs =
+    let s = c .before .before .before .before .before .before .before .before .before .args in
+    messages-taken (s .degree) (s .incoming .now) (s .channel .now) (s .messages .now) _
+    (rw (c .before .before .call .given .1) at (c .before .before .before .before .messages-test .ensures))
+
+enum-known-call-2 : tie.Need-enum-known-call-2
+enum-known-call-2 c = search needs
+
+same-length : tie.Need-same-length
+same-length c = search needs
+
+returns : tie.Need-returns
+returns c =
+    let q = c .before .before .before .before .before in
+    let s = q .before .before .before .before .before .before .before .args in
+    let tests = messagesTests (s .degree) (s .incoming .now) (s .channel .now) (s .messages .now) [] in
+    let h = rw (q .call .given .1) at (q .before .before .messages-test .ensures) in
+    record {
+      refusal = sym (h .0);
+      count = c .before .before .send-taken .ensures .0 ∙ sym (given-taken tests (s .degree) (λ d. count (bounded d) (s .incoming .now) (s .channel .now) (s .filling)) 0 h);
+      cells = c .before .before .send-taken .ensures .1 ∙ sym (given-taken tests (s .degree) (λ d. messages (bounded d) (s .incoming .now) (s .channel .now) (s .filling)) (s .messages .now) h);
+    }
+
+same-length-2 : tie.Need-same-length-2
+same-length-2 c = search needs
+
+returns-2 : tie.Need-returns-2
+returns-2 c =
+    let q = c .before in
+    let s = q .before .before .before .before .before .before .before .args in
+    let tests = messagesTests (s .degree) (s .incoming .now) (s .channel .now) (s .messages .now) [] in
+    let h = rw (q .call2 .given .1) at (q .before .before .messages-test .ensures) in
+    record {
+      refusal = h;
+      count = sym (given-refused tests (s .degree) (λ d. count (bounded d) (s .incoming .now) (s .channel .now) (s .filling)) 0 (q .call2 .given .0 .0) h);
+      cells = sym (given-refused tests (s .degree) (λ d. messages (bounded d) (s .incoming .now) (s .channel .now) (s .filling)) (s .messages .now) (q .call2 .given .0 .0) h);
+    }
+
+pub line-messages-spec : {M : Type 1} → statement M
+line-messages-spec =
+    tie.close
+    (tie.spec
+    messages-test-requires
+    enum-known-call
+    send-taken-requires
+    enum-known-call-2
+    same-length
+    returns
+    same-length-2
+    returns-2)
