@@ -1,87 +1,88 @@
 -- What holds after each turn of the loops over cells and words.
 -- Assumes nothing.
-use mathlib.Core.Path.{_≡_, refl, sym, ap, ap₂, _∙_}
-use mathlib.Core.Bool.{Bool, true, false}
+use mathlib.Core.Path.{_≡_, refl, sym, ap, ap₂, _∙_, subst}
 use mathlib.Core.List.{List, _++_, append-assoc, append-nil}
 use Prim.Native.Nat.{ℕ, suc, _+_, _-_, _*_, _/_, _%_, _<_, _≤_}
 use native.Mathlib.Nat.{zero-mul, one-mul, suc-mul, add-zero, add-assoc, sub-zero, add-sub-cancel-left, not-suc-le-zero}
 use native.Mathlib.Decide.{ℕ-discrete}
 use native.Mathlib.Numerals.{add-one}
 use native.Mathlib.Omega.{arith}
-use borrow.Author.Tests.{ne-eqb}
 use borrow.Rule.Slice.PartMut.{putMid, same-len-mid}
 use lib.Bits.{bitXor, xor-zero-r}
 use lib.ListN.{length, take, drop, getD, set, length-set, length-drop, drop-of-length-le}
 use lib.Seq.{length-take-le, getD-take, getD-drop, ext-getD, take-suc-set, take-all, take-at, drop-at, drop-drop, getD-set-same, getD-set-other}
 use Rattle.laws.specs.Bits.{bitAt}
 use Rattle.laws.proofs.Bits.{bit-at-lt}
-use Rattle.laws.specs.Digits.{sumOver, digits}
+use Rattle.laws.specs.Digits.{digits}
+use Rattle.degree.specs.declared.Degree.{Degree}
+use Rattle.degree.specs.Degree.{size}
+use Rattle.line.specs.Cells.{IsWord}
+use Rattle.line.specs.Packed.{PacksWord}
+use Rattle.line.specs.Encoding.{messageSize, encodeLine}
 use Rattle.array.specs.Arrays.{line, lines}
-use Rattle.array.specs.Units.{encodedWord, rowWord}
+use Rattle.array.specs.EncodedRows.{EncodedRows, rowWord}
 use Rattle.laws.specs.Sums.{xorTo}
-use Rattle.array.proofs.ArrayLaws.{Even, line-at, length-line, length-lines, line-room}
-use Rattle.line.proofs.Bounds.{square-le}
-use Rattle.laws.proofs.DigitSums.{cell, sum-more}
+use Rattle.array.proofs.ArrayLaws.{Even, line-at, line-cells, length-line, length-lines, line-room}
+use Rattle.line.proofs.Bounds.{square-le, message-le}
 use Rattle.laws.proofs.Linear.{to-last}
-
--- ---- a message row, a cell a turn
-
-module _ (t m : List ℕ) (sum a : ℕ) (e : sum ≡ encodedWord t (take a m)) where
-  -- a cell that holds 1, and another
-  pub sum-one : getD m a 0 ≡ 1 → bitXor sum (getD t a 0) ≡ encodedWord t (take (a + 1) m)
-  unfolding encodedWord
-  sum-one h = sym (ap (λ (x : ℕ). sumOver (λ j. getD t j 0) (take x m)) (add-one a) ∙ sum-more (λ j. getD t j 0) m a ∙ ap₂ (λ (x y : ℕ). bitXor x (cell y (getD t a 0))) (sym e) h)
-
-  pub sum-other : (getD m a 0 ≡ 1 → ⊥) → sum ≡ encodedWord t (take (a + 1) m)
-  unfolding encodedWord
-  sum-other h =
-      sym (ap (λ (x : ℕ). sumOver (λ j. getD t j 0) (take x m)) (add-one a) ∙ sum-more (λ j. getD t j 0) m a
-      ∙ ap (λ (x : Bool). bitXor (sumOver (λ j. getD t j 0) (take a m)) (elim x [ true ↦ getD t a 0 | false ↦ 0 ])) (ne-eqb (getD m a 0) 1 h)
-      ∙ xor-zero-r (sumOver (λ j. getD t j 0) (take a m)) ∙ sym e)
-
-  pub sum-all : length m ≤ a → sum ≡ encodedWord t m
-  sum-all h = e ∙ ap (encodedWord t) (take-all a m h)
 
 -- ---- the message rows, a row a turn
 
-pub record Encoding (t m ws₀ ws : List ℕ) (a at : ℕ) : Type 0 where
-  pub low : a ≤ length t
-  pub place : at ≡ a * length t
+pub record Encoding (d : Degree) (k : ℕ) (m ws₀ ws : List ℕ) (a at : ℕ) : Type 0 where
+  pub count : k ≡ messageSize d
+  pub low : a ≤ k
+  pub place : at ≡ a * k
   pub long : length ws ≡ length ws₀
-  pub words : (b : ℕ) → b < a → getD ws b 0 ≡ encodedWord t (line (length t) m b)
+  pub words : (b : ℕ) → b < a → PacksWord (size d) (encodeLine d (line k m b)) (getD ws b 0)
 
-pub encoding-start : (t m ws : List ℕ) → Encoding t m ws ws 0 0
-encoding-start t m ws = record {
+pub encoding-start : (d : Degree) (k : ℕ) (m ws : List ℕ) → k ≡ messageSize d → Encoding d k m ws ws 0 0
+encoding-start d k m ws e = record {
+  count = e;
   low = omega arith;
-  place = sym (zero-mul (length t));
+  place = sym (zero-mul k);
   long = refl;
   words = λ b h. absurd (not-suc-le-zero h);
 }
 
-module _ {t m ws₀ ws : List ℕ} {a at : ℕ} (w : Encoding t m ws₀ ws a at) (h : a < length t) where
-  -- the row lies within the message
-  pub encoding-room : at + length t ≤ length t * length t
-  encoding-room = omega (arith, w .place, line-room (length t) (length t) a h)
+module _ {d : Degree} {k : ℕ} {m ws₀ ws : List ℕ} {a at : ℕ} (w : Encoding d k m ws₀ ws a at) where
+  whole : IsWord (messageSize d * messageSize d) m → IsWord (k * k) m
+  whole M = subst (λ (x : ℕ). IsWord (x * x) m) (sym (w .count)) M
 
-  encoding-part : take (at + length t - at) (drop at m) ≡ line (length t) m a
-  encoding-part = ap₂ (λ (x y : ℕ). take x (drop y m)) (add-sub-cancel-left at (length t)) (w .place)
-
-  pub encoding-length : length m ≡ length t * length t → length (take (at + length t - at) (drop at m)) ≡ length t
-  encoding-length l = ap length encoding-part ∙ length-line (length t) (length t) m a h l
-
-  pub encoding-next : length t ≤ length ws₀ → (x : ℕ) → x ≡ encodedWord t (take (at + length t - at) (drop at m))
-      → Encoding t m ws₀ (set ws a x) (a + 1) (at + length t)
-  encoding-next l x e = record {
-    low = omega arith;
-    place = omega (arith, w .place, suc-mul a (length t));
-    long = length-set ws a x ∙ w .long;
-    words = λ b q. pick b (ℕ-discrete b a) q;
+  pub encoding-end : k ≤ a → EncodedRows d m ws
+  encoding-end h = record {
+    at = λ b q. subst (λ (x : ℕ). PacksWord (size d) (encodeLine d (line x m b)) (getD ws b 0)) (w .count) (w .words b (omega (arith, w .count)));
   }
-    where
-      pick : (b : ℕ) → Dec (b ≡ a) → b < a + 1 → getD (set ws a x) b 0 ≡ encodedWord t (line (length t) m b)
-      pick b (yes z) q =
-          rw z (getD-set-same ws a x 0 (omega (arith, w .long)) ∙ e ∙ ap (encodedWord t) encoding-part)
-      pick b (no z) q = getD-set-other ws a b x 0 z ∙ w .words b (omega (arith, z))
+
+  module _ (h : a < k) where
+    encoding-part : take (at + k - at) (drop at m) ≡ line k m a
+    encoding-part = ap₂ (λ (x y : ℕ). take x (drop y m)) (add-sub-cancel-left at k) (w .place)
+
+    -- there is a word for the row
+    pub encoding-word : length ws₀ ≡ 64 → a < length ws
+    encoding-word l = omega (arith, w .long, message-le d (w .count))
+
+    -- the row lies within the message, and its end fits
+    pub encoding-room : IsWord (messageSize d * messageSize d) m → (at + k ≤ length m) × (at + k ≤ 4096)
+    encoding-room M =
+        let r : at + k ≤ k * k = omega (arith, w .place, line-room k k a h) in
+        (omega (arith, whole M .long), omega (arith, square-le k (message-le d (w .count))))
+
+    pub encoding-cells : IsWord (messageSize d * messageSize d) m → IsWord (messageSize d) (take (at + k - at) (drop at m))
+    encoding-cells M = subst (λ (x : ℕ). IsWord x (take (at + k - at) (drop at m))) (w .count) (rw encoding-part (line-cells k k a (whole M) h))
+
+    pub encoding-next : length ws₀ ≡ 64 → (x : ℕ) → PacksWord (size d) (encodeLine d (take (at + k - at) (drop at m))) x
+        → Encoding d k m ws₀ (set ws a x) (a + 1) (at + k)
+    encoding-next l x e = record {
+      count = w .count;
+      low = omega arith;
+      place = omega (arith, w .place, suc-mul a k);
+      long = length-set ws a x ∙ w .long;
+      words = λ b q. pick b (ℕ-discrete b a) q;
+    }
+      where
+        pick : (b : ℕ) → Dec (b ≡ a) → b < a + 1 → PacksWord (size d) (encodeLine d (line k m b)) (getD (set ws a x) b 0)
+        pick b (yes z) q = rw (z, getD-set-same ws a x 0 (encoding-word l), ← encoding-part) e
+        pick b (no z) q = rw (getD-set-other ws a b x 0 z) (w .words b (omega (arith, z)))
 
 -- ---- a row of the array, a word a turn
 
@@ -101,8 +102,8 @@ module _ (t ws : List ℕ) (i sum a : ℕ) (e : sum ≡ rowWord t ws a i) where
       let z : bitAt (getD t a 0) i ≡ 0 = omega (arith, bit-at-lt (getD t a 0) i) in
       sym (more ∙ rw (z, zero-mul) (xor-zero-r sum))
 
-  pub row-all : a ≤ length t → length t ≤ a → sum ≡ rowWord t ws (length t) i
-  row-all l h = let n : a ≡ length t = omega arith in e ∙ ap (λ (x : ℕ). rowWord t ws x i) n
+  pub row-all : (k : ℕ) → a ≤ k → k ≤ a → sum ≡ rowWord t ws k i
+  row-all k l h = let n : a ≡ k = omega arith in e ∙ ap (λ (x : ℕ). rowWord t ws x i) n
 
 -- ---- bits written into a row, a cell a turn
 

@@ -2,7 +2,7 @@ pub mod Arrays
 pub mod PackedRows
 pub mod Encoding
 pub mod Refusals
-pub mod Units
+pub mod EncodedRows
 pub mod Halves
 pub mod Steps
 pub mod Plain

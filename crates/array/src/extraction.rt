@@ -1,11 +1,10 @@
 // Taking the message out of an array.
 use crate::refusals::extract_tests;
-use crate::sizes::check_size_of;
-use crate::sizes::message_size_of;
 use degree::Degree;
 use degree::Named;
 use degree::degree_of;
 use degree::size_of;
+use line::packed::Line;
 use words::copying::copy_cells;
 ghost use mathlib.Core.Path.{_≡_};
 ghost use Prim.Native.Nat.{_*_};
@@ -21,8 +20,8 @@ fn extract_message(d: Degree, cells: &[u8], message: &mut [u8])
     ensures { λ _. ⌜ now (message .exit) ≡ extracted d (now (cells .entry)) ⌝ }
 {
     let n = size_of(d);
-    let k = message_size_of(d);
-    let p = check_size_of(d);
+    let k = Line::message_cells(d);
+    let p = Line::check_cells(d);
     let mut i = 0;
     let mut from = p * n + p;
     let mut to = 0;

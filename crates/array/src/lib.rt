@@ -1,5 +1,4 @@
 // Arrays of n by n cells: encoding, taking the message out, the look-up of a row, and decoding.
-mod sizes; // k, and the check cells below the message
 pub mod encoding; // encode
 pub mod extraction; // extract
 pub mod rows; // the look-up of a row

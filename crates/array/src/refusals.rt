@@ -1,7 +1,7 @@
 // The tests 3 and 4 of encode, extract and the look-up of a row, after `degree_of` at the entry.
-use crate::sizes::message_size_of;
 use degree::Degree;
 use degree::size_of;
+use line::packed::Line;
 use line::refusals::at_most;
 ghost use mathlib.Core.Path.{_≡_};
 ghost use Rattle.array.specs.Refusals.{lentTests, encodeTests, extractTests, rowTests};
@@ -21,7 +21,7 @@ pub fn encode_tests(d: Degree, message: &[u8], long: usize) -> u64
     ensures { λ r. ⌜ r ≡ encodeTests (now (message .entry)) long d ⌝ }
 {
     let n = size_of(d);
-    let k = message_size_of(d);
+    let k = Line::message_cells(d);
     lent_tests((message.len() == k * k) & (long == n * n), 1, message)
 }
 
@@ -29,7 +29,7 @@ pub fn extract_tests(d: Degree, cells: &[u8], long: usize) -> u64
     ensures { λ r. ⌜ r ≡ extractTests (now (cells .entry)) long d ⌝ }
 {
     let n = size_of(d);
-    let k = message_size_of(d);
+    let k = Line::message_cells(d);
     lent_tests((cells.len() == n * n) & (long == k * k), 2, cells)
 }
 

@@ -24,4 +24,5 @@ pub mod Masking
 pub mod OneCodeword
 pub mod Walking
 pub mod LineEncoding
+pub mod UnitLaws
 pub mod Bounds

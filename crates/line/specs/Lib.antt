@@ -13,5 +13,4 @@ pub mod Clauses
 pub mod Fillings
 pub mod SentRows
 pub mod Encoding
--- passed on of the field part, for the crate above
-unfoldable pub use Rattle.field.specs.Field.{double, timesPower}
+pub mod Units

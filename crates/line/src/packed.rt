@@ -22,12 +22,13 @@ use words::bytes::put_eight;
 use words::bytes::spread;
 ghost use mathlib.Core.Path.{_≡_};
 ghost use mathlib.Core.List.{List};
-ghost use Prim.Native.Nat.{ℕ, _+_, _-_, _*_, _<_, _≤_, _%_};
+ghost use Prim.Native.Nat.{ℕ, _*_, _<_, _≤_, _%_};
 ghost use lib.Bits.{bitAnd, bitOr, bitXor};
 ghost use lib.ListN.{length, set};
-ghost use Rattle.degree.specs.Degree.{bits, size, order};
+ghost use Rattle.degree.specs.Degree.{size};
 ghost use Rattle.line.specs.Cells.{cell, erasures, distance, filled};
 ghost use Rattle.line.specs.Word.{value, width};
+ghost use Rattle.line.specs.Encoding.{checkSize, messageSize};
 ghost use Rattle.line.specs.Packed.{Packs, PacksWord, sideWord};
 
 // Bit i of `ones` says that cell i is 1, bit i of `erased` that it is unsure.
@@ -63,11 +64,21 @@ impl Line {
 
     // k: all cells but the 2v check cells below them and the parity cell above
     pub fn message_cells(d: Degree) -> usize
-        ensures { λ r. ⌜ r ≡ order d - 2 * bits d ⌝ }
+        ensures { λ r. ⌜ r ≡ messageSize d ⌝ }
     {
         match d {
             Degree::Four => Line::K_FOUR,
             Degree::Six => Line::K_SIX,
+        }
+    }
+
+    // 2v: the check cells below the message cells
+    pub fn check_cells(d: Degree) -> usize
+        ensures { λ r. ⌜ r ≡ checkSize d ⌝ }
+    {
+        match d {
+            Degree::Four => 8,
+            Degree::Six => 12,
         }
     }
 

@@ -4,6 +4,7 @@ use degree::Degree;
 use field::syndrome::Syndrome;
 use field::syndrome::syndrome_of;
 ghost use mathlib.Core.Path.{_≡_};
+ghost use mathlib.Core.Bool.{cond};
 ghost use mathlib.Core.Logic.{_≢_};
 ghost use mathlib.Core.List.{List};
 ghost use Prim.Native.Nat.{ℕ, _+_, _-_, _*_, _<_, _≤_, _/_, _%_, _^_};
@@ -34,6 +35,13 @@ pub fn of_number(x: u64) -> Word
     Word { bits: x }
 }
 
+// The number that a word stands for, as it is kept in an array of words.
+pub fn to_number(a: Word) -> u64
+    ensures { λ r. ⌜ r ≡ value a ⌝ }
+{
+    a.bits
+}
+
 // ---- all cells at once
 
 pub fn xor_words(a: Word, b: Word) -> Word
@@ -42,6 +50,13 @@ pub fn xor_words(a: Word, b: Word) -> Word
     Word {
         bits: a.bits ^ b.bits,
     }
+}
+
+// A sum by exclusive or, and one part more where it is asked for.
+pub fn xor_where(yes: bool, sum: Word, part: Word) -> Word
+    ensures { λ r. ⌜ value r ≡ bitXor (value sum) (cond yes (value part) 0) ⌝ }
+{
+    if yes { xor_words(sum, part) } else { sum }
 }
 
 pub fn and_words(a: Word, b: Word) -> Word

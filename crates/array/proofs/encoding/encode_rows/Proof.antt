@@ -2,24 +2,27 @@
 -- Assumes nothing.
 use Prim.Native.Nat.{_-_}
 use native.Mathlib.Omega.{arith}
-use lib.ListN.{length}
-use Rattle.line.proofs.Bounds.{square-le}
-use Rattle.array.proofs.Loops.{Encoding, encoding-start, encoding-room, encoding-length, encoding-next}
+use borrow.Author.Needs.{needs}
+use Rattle.array.proofs.Loops.{Encoding, encoding-start, encoding-word, encoding-room, encoding-cells, encoding-next, encoding-end}
 use Rattle.array.proofs.encoding.encode_rows.Statement.{statement}
 use Rattle.array.proofs.encoding.encode_rows.Tie as tie
 
 abbrev Inv-loop : tie.InvT-loop
-Inv-loop units message words₀ k a₀ at₀ words a at = Encoding units message words₀ words a at
+Inv-loop d units message words₀ k a₀ at₀ words a at = Encoding d k message words₀ words a at
 
 abbrev μ-loop : tie.MeasureT-loop
-μ-loop units message words₀ k a₀ at₀ words a at = length units - a
+μ-loop d units message words₀ k a₀ at₀ words a at = k - a
+
+message-cells-requires : tie.Need-message-cells-requires Inv-loop μ-loop
+message-cells-requires c κs = search needs
 
 loop-holds : tie.Need-loop-holds Inv-loop μ-loop
-loop-holds c = encoding-start _ _ _
+loop-holds c = encoding-start _ _ _ _ (c .message-cells .ensures)
 
 add-end : tie.Need-add-end Inv-loop μ-loop
 add-end c =
-    omega (arith, encoding-room (c .before .loop .inv) (c .loop-test .taken), square-le _ (c .before .before .before .before .before .pre .2))
+    let p = c .before .before .before .before .before .pre in
+    omega (arith, encoding-room (c .before .loop .inv) (c .loop-test .taken) (p .1) .1)
 
 sub-encoded-word : tie.Need-sub-encoded-word Inv-loop μ-loop
 sub-encoded-word c = omega arith
@@ -28,18 +31,22 @@ part-encoded-word-start : tie.Need-part-encoded-word-start Inv-loop μ-loop
 part-encoded-word-start c = omega arith
 
 part-encoded-word-end : tie.Need-part-encoded-word-end Inv-loop μ-loop
-part-encoded-word-end c = omega (arith, encoding-room (c .before .loop .inv) (c .loop-test .taken))
+part-encoded-word-end c =
+    let p = c .before .before .before .before .before .pre in
+    encoding-room (c .before .loop .inv) (c .loop-test .taken) (p .1) .0
 
 encoded-word-requires : tie.Need-encoded-word-requires Inv-loop μ-loop
 encoded-word-requires c κs =
-    let q = c .before .before in
-    omega (arith, encoding-length (q .loop .inv) (c .before .loop-test .taken) (q .before .before .before .before .pre .0))
+    let p = c .before .before .before .before .before .before .pre in
+    (p .0, encoding-cells (c .before .before .loop .inv) (c .before .loop-test .taken) (p .1))
 
 mul-words : tie.Need-mul-words Inv-loop μ-loop
 mul-words c = omega arith
 
 slice-write-words : tie.Need-slice-write-words Inv-loop μ-loop
-slice-write-words c = omega arith
+slice-write-words c =
+    let q = c .before .before .before in
+    encoding-word (q .loop .inv) (c .before .before .loop-test .taken) (q .before .before .before .before .pre .2)
 
 add-a : tie.Need-add-a Inv-loop μ-loop
 add-a c = omega arith
@@ -50,13 +57,13 @@ loop-less c = omega arith
 loop-again : tie.Need-loop-again Inv-loop μ-loop
 loop-again c =
     let q = c .before .before .before in
-    encoding-next (q .loop .inv) (c .before .before .loop-test .taken) (q .before .before .before .before .pre .1) _ (c .encoded-word .ensures)
+    encoding-next (q .loop .inv) (c .before .before .loop-test .taken) (q .before .before .before .before .pre .2) (c .encoded-word .result) (c .encoded-word .ensures)
 
 same-length : tie.Need-same-length Inv-loop μ-loop
-same-length c = omega arith
+same-length c = c .before .loop .inv .long
 
 returns : tie.Need-returns Inv-loop μ-loop
-returns c = record { at = λ a h. c .before .loop .inv .words a (omega arith) }
+returns c = encoding-end (c .before .loop .inv) (c .loop-test .left)
 
 pub encode-rows-spec : {M : Type 1} → statement M
 encode-rows-spec =
@@ -64,6 +71,7 @@ encode-rows-spec =
     (tie.spec
     Inv-loop
     μ-loop
+    message-cells-requires
     loop-holds
     add-end
     sub-encoded-word

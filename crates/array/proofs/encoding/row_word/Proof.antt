@@ -4,18 +4,17 @@ use Prim.Native.Nat.{_-_, _≤_}
 use mathlib.Core.Path.{_≡_, refl}
 use mathlib.Core.Logic.{⊎-elim}
 use native.Mathlib.Omega.{arith}
-use lib.ListN.{length}
 use Rattle.laws.specs.Sums.{xorTo}
-use Rattle.array.specs.Units.{rowWord}
+use Rattle.array.specs.EncodedRows.{rowWord}
 use Rattle.array.proofs.Loops.{row-one, row-other, row-all}
 use Rattle.array.proofs.encoding.row_word.Statement.{statement}
 use Rattle.array.proofs.encoding.row_word.Tie as tie
 
 abbrev Inv-loop : tie.InvT-loop
-Inv-loop units words i sum₀ a₀ sum a = (a ≤ length units) × (sum ≡ rowWord units words a i)
+Inv-loop k units words i sum₀ a₀ sum a = (a ≤ k) × (sum ≡ rowWord units words a i)
 
 abbrev μ-loop : tie.MeasureT-loop
-μ-loop units words i sum₀ a₀ sum a = length units - a
+μ-loop k units words i sum₀ a₀ sum a = k - a
 
 loop-holds : tie.Need-loop-holds Inv-loop μ-loop
 unfolding rowWord xorTo
@@ -24,8 +23,8 @@ loop-holds c = (omega arith, refl)
 mul-if1 : tie.Need-mul-if1 Inv-loop μ-loop
 mul-if1 c = omega arith
 
-shared-slice-read-if1 : tie.Need-shared-slice-read-if1 Inv-loop μ-loop
-shared-slice-read-if1 c = omega arith
+element-copy-out-if1 : tie.Need-element-copy-out-if1 Inv-loop μ-loop
+element-copy-out-if1 c = omega arith
 
 shr-if1 : tie.Need-shr-if1 Inv-loop μ-loop
 shr-if1 c = omega arith
@@ -55,7 +54,7 @@ loop-again c =
 returns : tie.Need-returns Inv-loop μ-loop
 returns c =
     let l = c .before .loop in
-    row-all _ _ _ (l .sum) (l .a) (l .inv .1) (l .inv .0) (c .loop-test .left)
+    row-all _ _ _ (l .sum) (l .a) (l .inv .1) _ (l .inv .0) (c .loop-test .left)
 
 pub row-word-spec : {M : Type 1} → statement M
 row-word-spec =
@@ -65,7 +64,7 @@ row-word-spec =
     μ-loop
     loop-holds
     mul-if1
-    shared-slice-read-if1
+    element-copy-out-if1
     shr-if1
     mul-sum
     shared-slice-read-sum

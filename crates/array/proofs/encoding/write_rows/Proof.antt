@@ -3,9 +3,8 @@
 use Prim.Native.Nat.{_-_}
 use mathlib.Core.Path.{ap₂, _∙_}
 use native.Mathlib.Omega.{arith}
-use lib.ListN.{length}
 use Rattle.laws.specs.Digits.{digits}
-use Rattle.array.specs.Units.{rowWord}
+use Rattle.array.specs.EncodedRows.{rowWord}
 use Rattle.line.proofs.Bounds.{square-le}
 use Rattle.laws.proofs.DigitSums.{digits-length}
 use Rattle.array.proofs.Loops.{Lining, lining-start, lining-room, lining-length, lining-next, lining-end}
@@ -13,23 +12,22 @@ use Rattle.array.proofs.encoding.write_rows.Statement.{statement}
 use Rattle.array.proofs.encoding.write_rows.Tie as tie
 
 abbrev Inv-loop : tie.InvT-loop
-Inv-loop units words n cells₀ i₀ at₀ cells i at =
-    Lining n (λ j. digits n (rowWord units words (length units) j)) n cells₀ cells i at
+Inv-loop n k units words cells₀ i₀ at₀ cells i at = Lining n (λ j. digits n (rowWord units words k j)) n cells₀ cells i at
 
 abbrev μ-loop : tie.MeasureT-loop
-μ-loop units words n cells₀ i₀ at₀ cells i at = n - i
+μ-loop n k units words cells₀ i₀ at₀ cells i at = n - i
 
 loop-holds : tie.Need-loop-holds Inv-loop μ-loop
-loop-holds c = lining-start (c .before .before .before .pre .2)
+loop-holds c = lining-start (c .before .before .pre .3)
 
 add-end : tie.Need-add-end Inv-loop μ-loop
 add-end c =
-    omega (arith, lining-room (c .before .loop .inv) (c .loop-test .taken), square-le _ (c .before .before .before .before .before .pre .1))
+    omega (arith, lining-room (c .before .loop .inv) (c .loop-test .taken), square-le _ (c .before .before .before .before .pre .2))
 
 row-word-requires : tie.Need-row-word-requires Inv-loop μ-loop
 row-word-requires c κs =
-    let p = c .before .before .before .before .before .pre in
-    (p .0, omega (arith, p .1))
+    let p = c .before .before .before .before .pre in
+    (p .0, p .1, omega (arith, p .2))
 
 sub-write-row : tie.Need-sub-write-row Inv-loop μ-loop
 sub-write-row c = omega arith
@@ -58,10 +56,10 @@ loop-again c =
     lining-next w (λ j z. digits-length _ _) h _ (q .write-row .ensures ∙ ap₂ digits (lining-length w h) (q .before .before .row-word .ensures))
 
 same-length : tie.Need-same-length Inv-loop μ-loop
-same-length c = omega (arith, c .before .loop .inv .long, c .before .before .before .before .before .pre .2)
+same-length c = omega (arith, c .before .loop .inv .long, c .before .before .before .before .pre .3)
 
 returns : tie.Need-returns Inv-loop μ-loop
-returns c = lining-end (c .before .loop .inv) (c .before .before .before .before .before .pre .2) (c .loop-test .left)
+returns c = lining-end (c .before .loop .inv) (c .before .before .before .before .pre .3) (c .loop-test .left)
 
 pub write-rows-spec : {M : Type 1} → statement M
 write-rows-spec =

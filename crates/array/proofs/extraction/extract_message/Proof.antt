@@ -19,32 +19,32 @@ abbrev μ-loop : tie.MeasureT-loop
 size-of-requires : tie.Need-size-of-requires Inv-loop μ-loop
 size-of-requires c κs = search needs
 
-message-size-of-requires : tie.Need-message-size-of-requires Inv-loop μ-loop
-message-size-of-requires c κs = search needs
+message-cells-requires : tie.Need-message-cells-requires Inv-loop μ-loop
+message-cells-requires c κs = search needs
 
-check-size-of-requires : tie.Need-check-size-of-requires Inv-loop μ-loop
-check-size-of-requires c κs = search needs
+check-cells-requires : tie.Need-check-cells-requires Inv-loop μ-loop
+check-cells-requires c κs = search needs
 
 mul-from : tie.Need-mul-from Inv-loop μ-loop
 mul-from c =
     let s = c .before .before .before .before .before in
     let n = c .before .before .size-of .ensures in
-    let r = room-le (s .args .d) n (c .before .message-size-of .ensures) (c .check-size-of .ensures) in
-    omega (arith, product-le (c .check-size-of .result) (c .before .before .size-of .result) (omega (arith, r, size-le (s .args .d) n)) (size-le (s .args .d) n))
+    let r = room-le (s .args .d) n (c .before .message-cells .ensures) (c .check-cells .ensures) in
+    omega (arith, product-le (c .check-cells .result) (c .before .before .size-of .result) (omega (arith, r, size-le (s .args .d) n)) (size-le (s .args .d) n))
 
 add-from : tie.Need-add-from Inv-loop μ-loop
 add-from c =
     let s = c .before .before .before .before .before in
     let n = c .before .before .size-of .ensures in
-    let r = room-le (s .args .d) n (c .before .message-size-of .ensures) (c .check-size-of .ensures) in
-    omega (arith, size-le (s .args .d) n, product-le (c .check-size-of .result) (c .before .before .size-of .result) (omega (arith, r, size-le (s .args .d) n)) (size-le (s .args .d) n))
+    let r = room-le (s .args .d) n (c .before .message-cells .ensures) (c .check-cells .ensures) in
+    omega (arith, size-le (s .args .d) n, product-le (c .check-cells .result) (c .before .before .size-of .result) (omega (arith, r, size-le (s .args .d) n)) (size-le (s .args .d) n))
 
 loop-holds : tie.Need-loop-holds Inv-loop μ-loop
 loop-holds c =
     let s = c .before .before .before .before .before in
     let n = c .before .before .size-of .ensures in
-    let r = room-le (s .args .d) n (c .before .message-size-of .ensures) (c .check-size-of .ensures) in
-    let k = c .before .message-size-of .ensures in
+    let r = room-le (s .args .d) n (c .before .message-cells .ensures) (c .check-cells .ensures) in
+    let k = c .before .message-cells .ensures in
     taking-start _ _ _ _ _ r (size-le (s .args .d) n) (s .pre .0 ∙ ap₂ _*_ (sym n) (sym n)) (s .pre .1 ∙ ap₂ _*_ (sym k) (sym k))
 
 add-copy-cells : tie.Need-add-copy-cells Inv-loop μ-loop
@@ -112,16 +112,16 @@ loop-again c =
 same-length : tie.Need-same-length Inv-loop μ-loop
 same-length c =
     let q = c .before .before in
-    let k = q .before .message-size-of .ensures in
+    let k = q .before .message-cells .ensures in
     c .before .loop .inv .lining .long ∙ sym (q .before .before .before .before .before .pre .1 ∙ ap₂ _*_ (sym k) (sym k))
 
 returns : tie.Need-returns Inv-loop μ-loop
 unfolding extracted
 returns c =
     let q = c .before .before in
-    let k = q .before .message-size-of .ensures in
+    let k = q .before .message-cells .ensures in
     taking-end (c .before .loop .inv) (q .before .before .before .before .before .pre .1 ∙ ap₂ _*_ (sym k) (sym k)) (c .loop-test .left)
-    ∙ rw (q .before .before .size-of .ensures, k, q .check-size-of .ensures)
+    ∙ rw (q .before .before .size-of .ensures, k, q .check-cells .ensures)
 
 pub extract-message-spec : {M : Type 1} → statement M
 extract-message-spec =
@@ -130,8 +130,8 @@ extract-message-spec =
     Inv-loop
     μ-loop
     size-of-requires
-    message-size-of-requires
-    check-size-of-requires
+    message-cells-requires
+    check-cells-requires
     mul-from
     add-from
     loop-holds

@@ -8,27 +8,27 @@ use Rattle.array.proofs.refusals.extract_tests.Tie as tie
 size-of-requires : tie.Need-size-of-requires
 size-of-requires c κs = search needs
 
-message-size-of-requires : tie.Need-message-size-of-requires
-message-size-of-requires c κs = search needs
+message-cells-requires : tie.Need-message-cells-requires
+message-cells-requires c κs = search needs
 
 mul-lent-tests : tie.Need-mul-lent-tests
 mul-lent-tests c = omega (arith, square-le (c .before .size-of .result) (size-le (c .before .before .before .args .d) (c .before .size-of .ensures)))
 
 mul-lent-tests-2 : tie.Need-mul-lent-tests-2
-mul-lent-tests-2 c = omega (arith, square-le (c .message-size-of .result) (message-le (c .before .before .before .args .d) (c .message-size-of .ensures)))
+mul-lent-tests-2 c = omega (arith, square-le (c .message-cells .result) (message-le (c .before .before .before .args .d) (c .message-cells .ensures)))
 
 lent-tests-requires : tie.Need-lent-tests-requires
 lent-tests-requires c κs = search needs
 
 returns : tie.Need-returns
-returns c = rw (← c .before .message-size-of .ensures, ← c .before .before .size-of .ensures) (c .lent-tests .ensures)
+returns c = rw (← c .before .message-cells .ensures, ← c .before .before .size-of .ensures) (c .lent-tests .ensures)
 
 pub extract-tests-spec : {M : Type 1} → statement M
 extract-tests-spec =
     tie.close
     (tie.spec
     size-of-requires
-    message-size-of-requires
+    message-cells-requires
     mul-lent-tests
     mul-lent-tests-2
     lent-tests-requires

@@ -1,0 +1,75 @@
+-- `encoding::unit_table` meets its contract: each fixed table, with zeros behind it, passes the test of units, which is computed
+-- here, over the table as it stands in the source.
+-- Assumes nothing.
+use mathlib.Core.Path.{refl}
+use Rattle.degree.specs.declared.Degree.the-variants.{Four, Six}
+use Rattle.field.specs.Field.{double, timesPower}
+use Rattle.laws.specs.Digits.{sumOver, ones, digits}
+use Rattle.line.specs.Encoding.{sums, checksFor}
+use Rattle.line.proofs.UnitLaws.{unitWord, units?, units-rule}
+use borrow.Author.Needs.{needs}
+use Rattle.line.proofs.encoding.unit_table.Statement.{statement}
+use Rattle.line.proofs.encoding.unit_table.Tie as tie
+
+enum-told : tie.Need-enum-told
+enum-told c = search needs
+
+slice-aggregate-copy-words : tie.Need-slice-aggregate-copy-words
+slice-aggregate-copy-words c = search needs
+
+sub-copy-words : tie.Need-sub-copy-words
+sub-copy-words c = search needs
+
+part-table-start : tie.Need-part-table-start
+part-table-start c = search needs
+
+part-table-end : tie.Need-part-table-end
+part-table-end c = search needs
+
+copy-words-requires : tie.Need-copy-words-requires
+copy-words-requires c κs = search needs
+
+enum-told-2 : tie.Need-enum-told-2
+enum-told-2 c = search needs
+
+slice-aggregate-copy-words-2 : tie.Need-slice-aggregate-copy-words-2
+slice-aggregate-copy-words-2 c = search needs
+
+sub-copy-words-2 : tie.Need-sub-copy-words-2
+sub-copy-words-2 c = search needs
+
+part-table-start-2 : tie.Need-part-table-start-2
+part-table-start-2 c = search needs
+
+part-table-end-2 : tie.Need-part-table-end-2
+part-table-end-2 c = search needs
+
+copy-words-requires-2 : tie.Need-copy-words-requires-2
+copy-words-requires-2 c κs = search needs
+
+returns : tie.Need-returns
+unfolding units? unitWord sums checksFor sumOver ones digits double timesPower
+returns c = rw (c .before .before .before .before .enum-told .given .1, c .before .copy-words .ensures) (units-rule Four _ tt refl)
+
+returns-2 : tie.Need-returns-2
+unfolding units? unitWord sums checksFor sumOver ones digits double timesPower
+returns-2 c = rw (c .before .before .before .before .enum-told2 .given .1, c .before .copy-words2 .ensures) (units-rule Six _ tt refl)
+
+pub unit-table-spec : {M : Type 1} → statement M
+unit-table-spec =
+    tie.close
+    (tie.spec
+    enum-told
+    slice-aggregate-copy-words
+    sub-copy-words
+    part-table-start
+    part-table-end
+    copy-words-requires
+    enum-told-2
+    slice-aggregate-copy-words-2
+    sub-copy-words-2
+    part-table-start-2
+    part-table-end-2
+    copy-words-requires-2
+    returns
+    returns-2)
