@@ -3,7 +3,7 @@
 -- checker computes over the whole table.
 -- Assumes nothing.
 use mathlib.Core.Path.{_≡_, refl, sym, ap, ap₂, _∙_, subst}
-use mathlib.Core.Bool.{Bool, true, false, _&&_}
+use mathlib.Core.Bool.{Bool, true, false, cond, _&&_}
 use mathlib.Core.List.{List, [], _∷_, _++_}
 use Prim.Native.Nat.{ℕ, zero, suc, _+_, _-_, _*_, _%_, _^_, _<_, _≤_}
 use native.Mathlib.Decide.{decLt}
@@ -11,7 +11,6 @@ use native.Mathlib.Nat.{mul-one}
 use native.Mathlib.Numerals.{add-one}
 use native.Mathlib.Omega.{arith}
 use mathlib.Core.Logic.{dite}
-use borrow.Author.Tests.{ne-eqb}
 use lib.Bits.{bitXor, xor-zero-r}
 use lib.Dec.{T, eqb, eqb→eq}
 use lib.ListN.{length, getD, take, List·getD-eq-default}
@@ -21,7 +20,7 @@ use Rattle.laws.specs.Bits.{bitAt}
 use Rattle.laws.specs.Digits.{sumOver, ones, digits, pack}
 use Rattle.laws.specs.Sums.{xorTo}
 use Rattle.laws.proofs.Bits.{bit-one}
-use Rattle.laws.proofs.DigitSums.{cell, sum-cong, sum-ones, sum-append, sum-more, digits-length}
+use Rattle.laws.proofs.DigitSums.{sum-cong, sum-ones, sum-append, sum-more, digits-length}
 use Rattle.laws.proofs.Linear.{one, sum-step, Additive, sum-map, then-adds, shift-adds, sumDigits, digits-adds, digits-power, digits-bits, digits-at, pack-step, pack-digits, digits-pack, pack-lt, pack-append, to-cong, to-both, sum-to}
 use Rattle.laws.proofs.Tests.{every, every-at, and-left, and-right}
 use Rattle.laws.proofs.Xor.{digit-lt}
@@ -173,16 +172,16 @@ module _ (d : Degree) where
 
 -- ---- the sum, a cell of the message a turn
 
-module _ (t m : List ℕ) (sum a : ℕ) (e : sum ≡ sumOver (λ j. getD t j 0) (take a m)) where
-  -- a cell that holds 1, and another
-  pub sum-one : getD m a 0 ≡ 1 → bitXor sum (getD t a 0) ≡ sumOver (λ j. getD t j 0) (take (a + 1) m)
-  sum-one h = sym (ap (λ (x : ℕ). sumOver (λ j. getD t j 0) (take x m)) (add-one a) ∙ sum-more (λ j. getD t j 0) m a ∙ ap₂ (λ (x y : ℕ). bitXor x (cell y (getD t a 0))) (sym e) h)
-
-  pub sum-other : (getD m a 0 ≡ 1 → ⊥) → sum ≡ sumOver (λ j. getD t j 0) (take (a + 1) m)
-  sum-other h =
-      sym (ap (λ (x : ℕ). sumOver (λ j. getD t j 0) (take x m)) (add-one a) ∙ sum-more (λ j. getD t j 0) m a
-      ∙ ap (λ (x : Bool). bitXor (sumOver (λ j. getD t j 0) (take a m)) (elim x [ true ↦ getD t a 0 | false ↦ 0 ])) (ne-eqb (getD m a 0) 1 h)
-      ∙ xor-zero-r (sumOver (λ j. getD t j 0) (take a m)) ∙ sym e)
+-- one cell more: its unit is added where it holds 1
+pub sum-next : (t m : List ℕ) (a : ℕ) {sum next : ℕ} → sum ≡ sumOver (λ j. getD t j 0) (take a m) → next ≡ bitXor sum (cond (eqb (getD m a 0) 1) (getD t a 0) 0)
+    → next ≡ sumOver (λ j. getD t j 0) (take (a + 1) m)
+sum-next t m a {sum} e f =
+    f
+    ∙ sym (ap (λ (x : ℕ). sumOver (λ j. getD t j 0) (take x m)) (add-one a) ∙ sum-more (λ j. getD t j 0) m a ∙ ap₂ bitXor (sym e) (picked (eqb (getD m a 0) 1)))
+  where
+    picked : (b : Bool) → elim b [ true ↦ getD t a 0 | false ↦ 0 ] ≡ cond b (getD t a 0) 0
+    picked true = refl
+    picked false = refl
 
 -- after the last turn
 pub sum-encodes : (d : Degree) (t m : List ℕ) {sum a : ℕ} → Units d t → IsWord (messageSize d) m → sum ≡ sumOver (λ j. getD t j 0) (take a m) → length m ≤ a

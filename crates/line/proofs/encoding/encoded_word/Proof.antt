@@ -1,34 +1,46 @@
--- `encoding::encoded_word` meets its contract. The loop's invariant: the sum is that of the cells passed.
+-- `line::encoding::encoded_word` meets its contract. The loop's invariant: the sum is that of the cells passed.
 -- Assumes nothing.
-use Prim.Native.Nat.{_-_, _≤_}
-use mathlib.Core.Path.{_≡_, refl}
-use mathlib.Core.Logic.{⊎-elim}
+use Prim.Native.Nat.{ℕ, _-_, _≤_}
+use mathlib.Core.Path.{_≡_, ap, _∙_}
+use mathlib.Core.Bool.{cond}
 use native.Mathlib.Omega.{arith}
+use lib.Bits.{bitXor}
+use lib.Dec.{eqb}
 use lib.ListN.{length, getD, take}
 use Rattle.laws.specs.Digits.{sumOver}
+use Rattle.line.specs.Word.{value}
 use Rattle.line.proofs.Bounds.{message-le}
-use Rattle.line.proofs.UnitLaws.{sum-one, sum-other, sum-encodes}
+use Rattle.line.proofs.UnitLaws.{sum-next, sum-encodes}
 use Rattle.line.proofs.encoding.encoded_word.Statement.{statement}
 use Rattle.line.proofs.encoding.encoded_word.Tie as tie
 
 abbrev Inv-loop : tie.InvT-loop
-Inv-loop units message sum₀ a₀ sum a = (a ≤ length message) × (sum ≡ sumOver (λ j. getD units j 0) (take a message))
+Inv-loop units message sum₀ a₀ sum a = (a ≤ length message) × (value sum ≡ sumOver (λ j. getD units j 0) (take a message))
 
 abbrev μ-loop : tie.MeasureT-loop
 μ-loop units message sum₀ a₀ sum a = length message - a
 
+zero-word-requires : tie.Need-zero-word-requires Inv-loop μ-loop
+zero-word-requires c κs = tt
+
 loop-holds : tie.Need-loop-holds Inv-loop μ-loop
 unfolding sumOver
-loop-holds c = (omega arith, refl)
+loop-holds c = (omega arith, c .zero-word .ensures)
 
-shared-slice-read-if1 : tie.Need-shared-slice-read-if1 Inv-loop μ-loop
-shared-slice-read-if1 c = omega arith
+shared-slice-read-xor-where : tie.Need-shared-slice-read-xor-where Inv-loop μ-loop
+shared-slice-read-xor-where c = omega arith
 
-mul-sum : tie.Need-mul-sum Inv-loop μ-loop
-mul-sum c = omega (arith, message-le (c .before .before .before .before .args .d) (c .before .before .before .before .pre .1 .long))
+mul-of-number : tie.Need-mul-of-number Inv-loop μ-loop
+mul-of-number c = omega (arith, message-le (c .before .before .before .before .before .args .d) (c .before .before .before .before .before .pre .1 .long))
 
-element-copy-out-sum : tie.Need-element-copy-out-sum Inv-loop μ-loop
-element-copy-out-sum c = omega (arith, message-le (c .before .before .before .before .args .d) (c .before .before .before .before .pre .1 .long))
+element-copy-out-of-number : tie.Need-element-copy-out-of-number Inv-loop μ-loop
+element-copy-out-of-number c = omega (arith, message-le (c .before .before .before .before .before .args .d) (c .before .before .before .before .before .pre .1 .long))
+
+of-number-requires : tie.Need-of-number-requires Inv-loop μ-loop
+of-number-requires c κs = tt
+
+xor-where-requires : tie.Need-xor-where-requires Inv-loop μ-loop
+xor-where-requires c κs = tt
 
 add-a : tie.Need-add-a Inv-loop μ-loop
 add-a c = omega arith
@@ -38,18 +50,16 @@ loop-less c = omega arith
 
 loop-again : tie.Need-loop-again Inv-loop μ-loop
 loop-again c =
-    let l = c .before .before .before .loop in
-    let s = c .before .before .before .before .args in (
+    let l = c .before .before .before .before .before .loop in
+    let s = c .before .before .before .before .before .before .before .before .args in (
       omega arith,
-      ⊎-elim
-          (λ w. rw (w .2) (sum-one (s .units .now) (s .message .now) (l .sum) (l .a) (l .inv .1) (w .0 .taken)))
-          (λ w. rw (w .1) (sum-other (s .units .now) (s .message .now) (l .sum) (l .a) (l .inv .1) (w .0 .left)))
-          (c .if1 .came),
+      sum-next (s .units .now) (s .message .now) (l .a) (l .inv .1)
+          (c .xor-where .ensures ∙ ap (λ (u : ℕ). bitXor (value (l .sum)) (cond (eqb (getD (s .message .now) (l .a) 0) 1) u 0)) (c .before .of-number .ensures)),
     )
 
 returns : tie.Need-returns Inv-loop μ-loop
 returns c =
-    let s = c .before .before in
+    let s = c .before .before .before .before in
     sum-encodes (s .args .d) (s .args .units .now) (s .args .message .now) (s .pre .0) (s .pre .1) (c .before .loop .inv .1) (c .loop-test .left)
 
 pub encoded-word-spec : {M : Type 1} → statement M
@@ -58,10 +68,13 @@ encoded-word-spec =
     (tie.spec
     Inv-loop
     μ-loop
+    zero-word-requires
     loop-holds
-    shared-slice-read-if1
-    mul-sum
-    element-copy-out-sum
+    shared-slice-read-xor-where
+    mul-of-number
+    element-copy-out-of-number
+    of-number-requires
+    xor-where-requires
     add-a
     loop-less
     loop-again
