@@ -1,5 +1,6 @@
 // The numbers of an answer, and the report: a lent slice that a call writes them to.
 use line::refusals::Refusal;
+use words::copying::copy_words;
 ghost use mathlib.Core.Path.{_≡_};
 ghost use mathlib.Core.Bool.{cond};
 ghost use lib.ListN.{length};
@@ -19,23 +20,12 @@ pub fn number_of(why: Refusal) -> u64
     }
 }
 
-fn copy_numbers(numbers: &[u64], report: &mut [u64])
-    requires { ⌜ length (now report) ≡ length (now numbers) ⌝ }
-    ensures { λ _. ⌜ now (report .exit) ≡ now (numbers .entry) ⌝ }
-{
-    let mut i = 0;
-    while i < numbers.len() {
-        report[i] = numbers[i];
-        i += 1;
-    }
-}
-
 // Writes the numbers to a report of their length. A report of another length stays as it is.
 pub fn tell(numbers: &[u64], report: &mut [u64])
     ensures { λ _. ⌜ now (report .exit) ≡ told (now (numbers .entry)) (now (report .entry)) ⌝ }
 {
     if report.len() == numbers.len() {
-        copy_numbers(numbers, report);
+        copy_words(numbers, report);
     }
 }
 

@@ -6,8 +6,8 @@ use borrow.Author.Needs.{needs}
 use Rattle.export.proofs.reports.tell.Statement.{statement}
 use Rattle.export.proofs.reports.tell.Tie as tie
 
-copy-numbers-requires : tie.Need-copy-numbers-requires
-copy-numbers-requires c κs = search needs
+copy-words-requires : tie.Need-copy-words-requires
+copy-words-requires c κs = search needs
 
 same-length : tie.Need-same-length
 same-length c = search needs
@@ -16,7 +16,7 @@ returns : tie.Need-returns
 returns c =
     let q = c .before .before .before .before in
     let s = q .before .before .before .args in
-    c .before .before .copy-numbers .ensures ∙ told-new (s .numbers .now) (s .report .now) (q .if1 .taken)
+    c .before .before .copy-words .ensures ∙ told-new (s .numbers .now) (s .report .now) (q .if1 .taken)
 
 returns-2 : tie.Need-returns-2
 returns-2 c =
@@ -24,4 +24,4 @@ returns-2 c =
     told-old (s .numbers .now) (s .report .now) (c .if1 .left)
 
 pub tell-spec : {M : Type 1} → statement M
-tell-spec = tie.close (tie.spec copy-numbers-requires same-length returns returns-2)
+tell-spec = tie.close (tie.spec copy-words-requires same-length returns returns-2)
