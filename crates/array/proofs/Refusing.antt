@@ -1,60 +1,102 @@
--- What a taken call's tests say of its input, and what a call returns and leaves by the degree that its number names.
+-- The tests of the calls on arrays: by the degree that a number names, and what those of a taken call say of its input.
 -- Assumes nothing.
 use mathlib.Core.Path.{_≡_, refl, sym, ap, _∙_}
-use mathlib.Core.Bool.{Bool, true, false, _&&_, true≢false}
+use mathlib.Core.Bool.{Bool, true, false, not, _||_}
 use mathlib.Core.List.{List, [], _∷_}
-use Prim.Native.Nat.{ℕ, zero, suc, _+_, _-_, _*_, _<_, _≤_}
-use native.Mathlib.Nat.{add-sub-cancel-left}
+use Prim.Native.Nat.{ℕ, _+_, _-_, _*_, _^_, _<_, _≤_}
+use native.Mathlib.Nat.{add-sub-cancel-left, mul-le-mul}
 use native.Mathlib.Omega.{arith}
-use borrow.Author.Tests.{eqb-true, ltb-true, leb-true, eq-eqb, ne-eqb}
+use borrow.Author.Tests.{eqb-false, ltb-false, leb-false}
 use lib.Dec.{eqb, ltb, leb}
 use lib.ListN.{length, take, drop}
 use Rattle.degree.specs.declared.Degree.{Degree}
-use Rattle.degree.specs.declared.Named.{Named}
-use Rattle.degree.specs.declared.Named.the-variants.{Known, Unknown}
-use Rattle.degree.specs.Degree.{size, named}
+use Rattle.degree.specs.declared.Degree.the-variants.{Four, Six}
+use Rattle.degree.specs.declared.Named.the-variants.{Known}
+use Rattle.degree.specs.Degree.{bits, size, named}
+use Rattle.line.specs.declared.refusals.Call.{Call}
 use Rattle.line.specs.Cells.{IsWord}
-use Rattle.line.specs.Refusals.{atMost}
-use Rattle.line.proofs.EntryLaws.{at-most-small}
-use Rattle.laws.proofs.Tests.{and-true}
-use Rattle.array.specs.Arrays.{line}
 use Rattle.line.specs.Encoding.{messageSize}
-use Rattle.array.specs.Refusals.{test, refusal, left, Answered, encodeTests, extractTests, rowTests}
-use Rattle.array.proofs.ArrayLaws.{line-room}
+use Rattle.line.specs.Refusals.{refusal, Tested, misfit, atMost}
 use Rattle.line.proofs.Bounds.{square-le, size-le}
+use Rattle.line.proofs.Refusing.{or-none, some-none, fits, cells-small, known-bits, known-size, bits-named, none-applies, tested-known}
+use Rattle.array.specs.Arrays.{line}
+use Rattle.array.specs.Steps.{IsArray}
+use Rattle.array.specs.Refusals.{messageCells, encodeTests, extractTests, rowTests, decodeTests}
+use Rattle.array.proofs.ArrayLaws.{line-room}
 
--- ---- the tests of a taken call pass
+-- ---- k by the degree that a number names
 
-passed : (p q : Bool) → test 3 p (test 4 q 0) ≡ 0 → (p ≡ true) × (q ≡ true)
-passed true true e = (refl, refl)
-passed true false e = absurd (omega arith)
-passed false q e = absurd (omega arith)
+bits-message : (d : Degree) → messageCells (bits d) ≡ messageSize d
+bits-message Four = refl
+bits-message Six = refl
 
-module _ (d : Degree) where
-  pub encode-taken : (m : List ℕ) (long : ℕ) → encodeTests m long d ≡ 0
-      → IsWord (messageSize d * messageSize d) m × (long ≡ size d * size d)
-  encode-taken m long e =
-      let k = messageSize d * messageSize d in
-      let n = size d * size d in
-      let p = passed (eqb (length m) k && eqb long n) (atMost 1 m) e in
-      let l = and-true (eqb (length m) k) (eqb long n) (p .0) in
-      (record { long = eqb-true (length m) k (l .0); small = at-most-small 1 m (p .1) }, eqb-true long n (l .1))
+known-message : (degree : ℕ) (d : Degree) → named degree ≡ Known d → messageCells degree ≡ messageSize d
+known-message degree d e = ap messageCells (known-bits degree d e) ∙ bits-message d
 
-  pub extract-taken : (a : List ℕ) (long : ℕ) → extractTests a long d ≡ 0
-      → (length a ≡ size d * size d) × (long ≡ messageSize d * messageSize d)
-  extract-taken a long e =
-      let k = messageSize d * messageSize d in
-      let n = size d * size d in
-      let p = passed (eqb (length a) n && eqb long k) (atMost 2 a) e in
-      let l = and-true (eqb (length a) n) (eqb long k) (p .0) in
-      (eqb-true (length a) n (l .0), eqb-true long k (l .1))
+-- ---- encode
 
-  pub row-taken : (a : List ℕ) (index : ℕ) → rowTests a index d ≡ 0 → (length a ≡ size d * size d) × (index < size d)
-  row-taken a index e =
-      let n = size d * size d in
-      let p = passed (eqb (length a) n && ltb index (size d)) (atMost 2 a) e in
-      let l = and-true (eqb (length a) n) (ltb index (size d)) (p .0) in
-      (eqb-true (length a) n (l .0), ltb-true index (size d) (l .1))
+module _ (degree : ℕ) (message cells : List ℕ) (d : Degree) where
+  pub encode-known : (r : Call) {n k : ℕ} → named degree ≡ Known d → n ≡ size d → k ≡ messageSize d
+      → Tested (bits d) ((3, misfit (length message) (k * k) || misfit (length cells) (n * n)) ∷ (4, not (atMost 1 message)) ∷ []) r
+      → Tested degree (encodeTests degree message cells) r
+  unfolding encodeTests
+  encode-known r {n} {k} e f g h =
+      tested-known degree d ((3, misfit (length message) (k * k) || misfit (length cells) (n * n)) ∷ (4, not (atMost 1 message)) ∷ []) (encodeTests degree message cells) r e
+      (rw (e, known-message degree d e, known-size degree d e, f, g, or-none (misfit (length cells) (size d * size d)))) h
+
+  pub encode-taken : (refusal (encodeTests degree message cells) ≡ 0) × (named degree ≡ Known d)
+      → IsWord (messageSize d * messageSize d) message × (length cells ≡ size d * size d)
+  unfolding encodeTests
+  encode-taken h =
+      let n = none-applies (encodeTests degree message cells) tt (h .0) in
+      let l = some-none (misfit (length message) (messageCells degree * messageCells degree) ∷ misfit (length cells) (2 ^ degree * 2 ^ degree) ∷ []) (n .1 .0) in (
+        record {
+          long = fits (length message) (messageCells degree * messageCells degree) (l .0) ∙ ap (λ (k : ℕ). k * k) (known-message degree d (h .1));
+          small = cells-small 1 message (n .1 .1 .0);
+        },
+        fits (length cells) (2 ^ degree * 2 ^ degree) (l .1 .0) ∙ ap (λ (k : ℕ). k * k) (known-size degree d (h .1)),
+      )
+
+-- ---- extract
+
+module _ (degree : ℕ) (cells message : List ℕ) (d : Degree) where
+  pub extract-known : (r : Call) {n k : ℕ} → named degree ≡ Known d → n ≡ size d → k ≡ messageSize d
+      → Tested (bits d) ((3, misfit (length cells) (n * n) || misfit (length message) (k * k)) ∷ (4, not (atMost 2 cells)) ∷ []) r
+      → Tested degree (extractTests degree cells message) r
+  unfolding extractTests
+  extract-known r {n} {k} e f g h =
+      tested-known degree d ((3, misfit (length cells) (n * n) || misfit (length message) (k * k)) ∷ (4, not (atMost 2 cells)) ∷ []) (extractTests degree cells message) r e
+      (rw (e, known-message degree d e, known-size degree d e, f, g, or-none (misfit (length message) (messageSize d * messageSize d)))) h
+
+  pub extract-taken : (refusal (extractTests degree cells message) ≡ 0) × (named degree ≡ Known d)
+      → (length cells ≡ size d * size d) × (length message ≡ messageSize d * messageSize d)
+  unfolding extractTests
+  extract-taken h =
+      let n = none-applies (extractTests degree cells message) tt (h .0) in
+      let l = some-none (misfit (length cells) (2 ^ degree * 2 ^ degree) ∷ misfit (length message) (messageCells degree * messageCells degree) ∷ []) (n .1 .0) in (
+        fits (length cells) (2 ^ degree * 2 ^ degree) (l .0) ∙ ap (λ (k : ℕ). k * k) (known-size degree d (h .1)),
+        fits (length message) (messageCells degree * messageCells degree) (l .1 .0) ∙ ap (λ (k : ℕ). k * k) (known-message degree d (h .1)),
+      )
+
+-- ---- the look-up of a row
+
+module _ (degree : ℕ) (cells : List ℕ) (index : ℕ) (d : Degree) where
+  pub row-known : (r : Call) {n : ℕ} → named degree ≡ Known d → n ≡ size d
+      → Tested (bits d) ((3, misfit (length cells) (n * n) || leb n index) ∷ (4, not (atMost 2 cells)) ∷ []) r
+      → Tested degree (rowTests degree cells index []) r
+  unfolding rowTests
+  row-known r {n} e f h =
+      tested-known degree d ((3, misfit (length cells) (n * n) || leb n index) ∷ (4, not (atMost 2 cells)) ∷ []) (rowTests degree cells index []) r e
+      (rw (e, known-size degree d e, f, or-none (leb (size d) index))) h
+
+  pub row-taken : (refusal (rowTests degree cells index []) ≡ 0) × (named degree ≡ Known d) → (length cells ≡ size d * size d) × (index < size d)
+  unfolding rowTests
+  row-taken h =
+      let n = none-applies (rowTests degree cells index []) tt (h .0) in
+      let l = some-none (misfit (length cells) (2 ^ degree * 2 ^ degree) ∷ leb (2 ^ degree) index ∷ []) (n .1 .0) in (
+        fits (length cells) (2 ^ degree * 2 ^ degree) (l .0) ∙ ap (λ (k : ℕ). k * k) (known-size degree d (h .1)),
+        rw (known-size degree d (h .1)) at (leb-false (2 ^ degree) index (l .1 .0)),
+      )
 
 -- ---- the row that a taken look-up gives
 
@@ -67,36 +109,48 @@ row-room d index {n} e h =
 pub row-part : (a : List ℕ) (index : ℕ) {n m : ℕ} → n ≡ m → take (index * n + n - index * n) (drop (index * n) a) ≡ line m a index
 row-part a index {n} e = ap (λ (x : ℕ). take x (drop (index * n) a)) (add-sub-cancel-left (index * n) n) ∙ ap (λ (x : ℕ). line x a index) e
 
--- ---- a number that names a degree, and one that names none
+-- ---- decode
 
-module _ {v : Named} {d : Degree} (e : v ≡ Known d) (tests : Degree → ℕ) where
-  pub known-number : {x : ℕ} → x ≡ tests d → x ≡ refusal v tests
-  known-number h = h ∙ sym (ap (λ (v : Named). refusal v tests) e)
+-- the iterations that are taken
+pub few-iterations : (l : ℕ) → (eqb l 0 || ltb 20 l) ≡ false → (1 ≤ l) × (l ≤ 20)
+few-iterations l e =
+    let h = some-none (eqb l 0 ∷ ltb 20 l ∷ []) (rw (or-none (ltb 20 l)) e) in
+    (omega (arith, eqb-false l 0 (h .0)), omega (arith, ltb-false 20 l (h .1 .0)))
 
-  pub known-taken : (new : Degree → List ℕ) (old : List ℕ) {y : List ℕ} → tests d ≡ 0 → y ≡ new d → y ≡ left v tests new old
-  known-taken new old h f = rw (e, eq-eqb (tests d) 0 h) f
+-- the filling words of them fit a number; n is the code's number for `size d`
+pub words-room : (d : Degree) (n l : ℕ) → n ≡ size d → l ≤ 20 → 2 * l * n ≤ 2560
+words-room d n l e h = mul-le-mul {n₁ = 2 * l} {m₁ = n} {n₂ = 40} {m₂ = 64} (omega arith) (size-le d e)
 
-  pub known-refused : (new : Degree → List ℕ) (old : List ℕ) → (tests d ≡ 0 → ⊥) → old ≡ left v tests new old
-  known-refused new old h = rw (e, ne-eqb (tests d) 0 h)
+module _ (d : Degree) (l : ℕ) (r w s : List ℕ) where
+  pub decode-iterations : (eqb l 0 || ltb 20 l) ≡ true → 2 ≡ refusal (decodeTests (bits d) l r w s [])
+  unfolding decodeTests
+  decode-iterations e = rw (bits-named d, e)
 
-module _ {v : Named} (e : v ≡ Unknown) (tests : Degree → ℕ) where
-  pub unknown-number : 1 ≡ refusal v tests
-  unknown-number = sym (ap (λ (v : Named). refusal v tests) e)
+  pub decode-lengths : (c : Call) {n : ℕ} → (eqb l 0 || ltb 20 l) ≡ false → n ≡ size d
+      → Tested (bits d) ((3, misfit (length r) (n * n) || (misfit (length w) (2 * l * n) || misfit (length s) (n * n))) ∷ (4, not (atMost 2 r)) ∷ []) c
+      → Tested (bits d) (decodeTests (bits d) l r w s []) c
+  unfolding decodeTests
+  decode-lengths c {n} e f h =
+      tested-known (bits d) d ((3, misfit (length r) (n * n) || (misfit (length w) (2 * l * n) || misfit (length s) (n * n))) ∷ (4, not (atMost 2 r)) ∷ [])
+      (decodeTests (bits d) l r w s []) c (bits-named d)
+      (rw (bits-named d, e, f, or-none (misfit (length s) (size d * size d)))) h
 
-  pub unknown-refused : (new : Degree → List ℕ) (old : List ℕ) → old ≡ left v tests new old
-  unknown-refused new old = rw e
+module _ (degree l : ℕ) (r w s : List ℕ) (d : Degree) where
+  pub decode-known : (c : Call) → named degree ≡ Known d → Tested (bits d) (decodeTests (bits d) l r w s []) c → Tested degree (decodeTests degree l r w s []) c
+  decode-known c e h = rw (known-bits degree d e) h
 
--- ---- what a call returns and leaves
-
-module _ {degree : ℕ} {tests : Degree → ℕ} {made : Degree → List ℕ} {old : List ℕ} where
-  pub answered-taken : {d : Degree} {new : List ℕ} {x : ℕ} → named degree ≡ Known d → x ≡ tests d → x ≡ 0 → new ≡ made d
-      → Answered degree tests made old new x
-  answered-taken e h z f =
-      record { refused = known-number e tests h; cells = known-taken e tests made old (sym h ∙ z) f }
-
-  pub answered-refused : {d : Degree} {x : ℕ} → named degree ≡ Known d → x ≡ tests d → (x ≡ 0 → ⊥) → Answered degree tests made old old x
-  answered-refused e h z =
-      record { refused = known-number e tests h; cells = known-refused e tests made old (λ w. z (h ∙ w)) }
-
-  pub answered-unknown : named degree ≡ Unknown → Answered degree tests made old old 1
-  answered-unknown e = record { refused = unknown-number e tests; cells = unknown-refused e tests made old }
+  pub decode-takes : (refusal (decodeTests degree l r w s []) ≡ 0) × (named degree ≡ Known d)
+      → IsArray d r × (length s ≡ size d * size d) × (length w ≡ 2 * l * size d) × (l ≤ 20) × (1 ≤ l)
+  unfolding decodeTests
+  decode-takes h =
+      let k = 2 ^ degree in
+      let e = known-size degree d (h .1) in
+      let n = none-applies (decodeTests degree l r w s []) tt (h .0) in
+      let m = some-none (misfit (length r) (k * k) ∷ misfit (length w) (2 * l * k) ∷ misfit (length s) (k * k) ∷ []) (n .1 .1 .0) in
+      let i = few-iterations l (n .1 .0) in (
+        record { long = fits (length r) (k * k) (m .0) ∙ ap (λ (x : ℕ). x * x) e; small = cells-small 2 r (n .1 .1 .1 .0) },
+        fits (length s) (k * k) (m .1 .1 .0) ∙ ap (λ (x : ℕ). x * x) e,
+        fits (length w) (2 * l * k) (m .1 .0) ∙ ap (λ (x : ℕ). 2 * l * x) e,
+        i .1,
+        i .0,
+      )

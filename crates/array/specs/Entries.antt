@@ -1,21 +1,40 @@
--- What the decode entry promises: the answer in document 01's numbers, and every lent cell at exit, for taken and refused calls
--- alike.
+-- What the entries on arrays promise: the answer in document 01's numbers, and every lent cell at exit, for taken and refused
+-- calls alike. Of a refused call "every lent cell keeps its value", "closed is no, and the unsure cells and any further number
+-- reported are 0".
 use mathlib.Core.Path.{_≡_}
 use mathlib.Core.Bool.{Bool, true, false}
-use mathlib.Core.List.{List}
+use mathlib.Core.List.{List, []}
 use Prim.Native.Nat.{ℕ}
 use Rattle.degree.specs.declared.Degree.{Degree}
+use Rattle.degree.specs.declared.Named.the-variants.{Known}
+use Rattle.degree.specs.Degree.{size, named}
 use Rattle.line.specs.Cells.{erasures as erasuresIn}
-use Rattle.line.specs.declared.refusals.Call.{Call}
-use Rattle.line.specs.declared.refusals.Call.the-variants.{Taken, Refused}
+use Rattle.line.specs.Refusals.{number, refusal, given}
 use Rattle.array.specs.declared.entry.DecodeAnswer.{DecodeAnswer}
 use Rattle.array.specs.declared.entry.DecodeAnswer.the-variants as answer
-use Rattle.array.specs.Encoding.{Sent}
+use Rattle.array.specs.Arrays.{line}
+use Rattle.array.specs.Encoding.{encodeArray, extracted, Sent}
 use Rattle.array.specs.Plain.{plain, plainCount, closed as closedIn, RowCondition}
-use Rattle.line.specs.Refusals.{number, refusalIn}
-use Rattle.array.specs.DecodeRefusals.{decodeCall}
+use Rattle.array.specs.Refusals.{encodeTests, extractTests, rowTests, decodeTests}
 
--- ---- the answer in document 01's numbers: the refusal, 0 for none; the count; the unsure cells; closed
+-- ---- encode, extract and the look-up of a row answer with the refusal number itself
+
+pub record Encoded (degree : ℕ) (message before after : List ℕ) (no : ℕ) : Type 0 where
+  pub refusal : no ≡ refusal (encodeTests degree message before)
+  pub cells : after ≡ given degree (encodeTests degree message before) (λ d. encodeArray d message) before
+
+pub record Extracted (degree : ℕ) (cells before after : List ℕ) (no : ℕ) : Type 0 where
+  pub refusal : no ≡ refusal (extractTests degree cells before)
+  pub message : after ≡ given degree (extractTests degree cells before) (λ d. extracted d cells) before
+
+abbrev pub rowRefusal : (degree : ℕ) (cells : List ℕ) (index : ℕ) → ℕ
+rowRefusal degree cells index = refusal (rowTests degree cells index [])
+
+-- "every refused look-up gives an empty part"
+abbrev pub rowPart : (degree : ℕ) (cells : List ℕ) (index : ℕ) → List ℕ
+rowPart degree cells index = given degree (rowTests degree cells index []) (λ d. line (size d) cells index) []
+
+-- ---- the answer of decode in document 01's numbers: the refusal, 0 for none; the count; the unsure cells; closed
 
 abbrev pub refusalOf : DecodeAnswer → ℕ
 refusalOf (answer.Refused why) = number why
@@ -33,33 +52,14 @@ abbrev pub closedOf : DecodeAnswer → Bool
 closedOf (answer.Refused why) = false
 closedOf (answer.Decoded t) = t .closed
 
--- ---- what a call asks for: the plain decoding of the received array. "A refused call makes no step of it"; then "closed is no,
--- and the unsure cells and any further number reported are 0", and "every lent cell keeps its value".
-
--- l iterations, with received array r, filling words w, and the cells as they were
-abbrev pub cellsFor : Call → (l : ℕ) (r w before : List ℕ) → List ℕ
-cellsFor (Taken d) l r w before = plain d l r r w
-cellsFor (Refused why) l r w before = before
-
-abbrev pub countFor : Call → (l : ℕ) (r w : List ℕ) → ℕ
-countFor (Taken d) l r w = plainCount d l r r w
-countFor (Refused why) l r w = 0
-
-abbrev pub erasuresFor : Call → (l : ℕ) (r w : List ℕ) → ℕ
-erasuresFor (Taken d) l r w = erasuresIn (plain d l r r w)
-erasuresFor (Refused why) l r w = 0
-
-abbrev pub closedFor : Call → (l : ℕ) (r w : List ℕ) → Bool
-closedFor (Taken d) l r w = closedIn d (plain d l r r w)
-closedFor (Refused why) l r w = false
-
--- ---- the promise
+-- ---- decode: the plain decoding of the received array r by l iterations with filling words w. "A refused call makes no step of
+-- it."
 
 pub record DecodeDone (degree l : ℕ) (r w before after : List ℕ) (a : DecodeAnswer) : Type 0 where
-  pub refusal : refusalOf a ≡ refusalIn (decodeCall degree l r w before)
-  pub count : countOf a ≡ countFor (decodeCall degree l r w before) l r w
-  pub erasures : erasuresOf a ≡ erasuresFor (decodeCall degree l r w before) l r w
-  pub closed : closedOf a ≡ closedFor (decodeCall degree l r w before) l r w
-  pub cells : after ≡ cellsFor (decodeCall degree l r w before) l r w before
+  pub refusal : refusalOf a ≡ refusal (decodeTests degree l r w before [])
+  pub count : countOf a ≡ given degree (decodeTests degree l r w before []) (λ d. plainCount d l r r w) 0
+  pub erasures : erasuresOf a ≡ given degree (decodeTests degree l r w before []) (λ d. erasuresIn (plain d l r r w)) 0
+  pub closed : closedOf a ≡ given degree (decodeTests degree l r w before []) (λ d. closedIn d (plain d l r r w)) false
+  pub cells : after ≡ given degree (decodeTests degree l r w before []) (λ d. plain d l r r w) before
   -- demand 3, last sentence: for every sent array s near which each received row is, the cells left are those of s, and closed
-  pub sent : (d : Degree) (s : List ℕ) → decodeCall degree l r w before ≡ Taken d → Sent d s → RowCondition d r s → (after ≡ s) × (closedOf a ≡ true)
+  pub sent : (d : Degree) (s : List ℕ) → refusalOf a ≡ 0 → named degree ≡ Known d → Sent d s → RowCondition d r s → (after ≡ s) × (closedOf a ≡ true)

@@ -6,6 +6,5 @@ pub mod EncodedRows
 pub mod Halves
 pub mod Steps
 pub mod Plain
-pub mod DecodeRefusals
 pub mod Entries
 pub mod Runs

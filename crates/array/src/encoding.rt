@@ -1,13 +1,13 @@
 // Encoding an array on packed words: the message rows are encoded, and the rows of the array are sums of them.
-use crate::refusals::encode_tests;
+use crate::refusals::encode_test;
 use degree::Degree;
-use degree::Named;
-use degree::degree_of;
 use degree::size_of;
 use line::encoding::UnitTable;
 use line::encoding::encoded_word;
 use line::encoding::unit_table;
 use line::packed::Line;
+use line::refusals::Call;
+use line::refusals::number_of;
 ghost use mathlib.Core.Path.{_≡_};
 ghost use Prim.Native.Nat.{_*_, _<_, _≤_};
 ghost use lib.ListN.{length};
@@ -19,7 +19,7 @@ ghost use Rattle.line.specs.Units.{Units};
 ghost use Rattle.array.specs.Arrays.{lines};
 ghost use Rattle.array.specs.Encoding.{encodeArray};
 ghost use Rattle.array.specs.EncodedRows.{EncodedRows, rowWord};
-ghost use Rattle.array.specs.Refusals.{Encoded};
+ghost use Rattle.array.specs.Entries.{Encoded};
 
 // The words of the message rows.
 fn encode_rows(d: Degree, units: &UnitTable, message: &[u8], words: &mut [u64])
@@ -106,14 +106,12 @@ fn encode_array(d: Degree, message: &[u8], cells: &mut [u8])
 pub fn encode(degree: u64, message: &[u8], cells: &mut [u8]) -> u64
     ensures { λ r. ⌜ Encoded degree (now (message .entry)) (now (cells .entry)) (now (cells .exit)) r ⌝ }
 {
-    match degree_of(degree) {
-        Named::Known(d) => {
-            let number = encode_tests(d, message, cells.len());
-            if number == 0 {
-                encode_array(d, message, cells);
-            }
-            number
-        },
-        Named::Unknown => 1,
+    let call = encode_test(degree, message, cells);
+    match call {
+        Call::Taken(d) => {
+            encode_array(d, message, cells);
+            0
+        }
+        Call::Refused(why) => number_of(why),
     }
 }

@@ -1,6 +1,6 @@
 // The decode entry: what a caller outside may use. It takes plain numbers and lent slices, and asks nothing of them.
-use crate::decode_refusals::decode_test;
 use crate::decoding::decode_taken;
+use crate::refusals::decode_test;
 use crate::report::Report;
 use line::refusals::Call;
 use line::refusals::Refusal;

@@ -1,10 +1,10 @@
 // Taking the message out of an array.
-use crate::refusals::extract_tests;
+use crate::refusals::extract_test;
 use degree::Degree;
-use degree::Named;
-use degree::degree_of;
 use degree::size_of;
 use line::packed::Line;
+use line::refusals::Call;
+use line::refusals::number_of;
 use words::copying::copy_cells;
 ghost use mathlib.Core.Path.{_≡_};
 ghost use Prim.Native.Nat.{_*_};
@@ -12,7 +12,7 @@ ghost use lib.ListN.{length};
 ghost use Rattle.degree.specs.Degree.{size};
 ghost use Rattle.line.specs.Encoding.{messageSize};
 ghost use Rattle.array.specs.Encoding.{extracted};
-ghost use Rattle.array.specs.Refusals.{Extracted};
+ghost use Rattle.array.specs.Entries.{Extracted};
 
 // The message cells, row after row.
 fn extract_message(d: Degree, cells: &[u8], message: &mut [u8])
@@ -38,14 +38,12 @@ fn extract_message(d: Degree, cells: &[u8], message: &mut [u8])
 pub fn extract(degree: u64, cells: &[u8], message: &mut [u8]) -> u64
     ensures { λ r. ⌜ Extracted degree (now (cells .entry)) (now (message .entry)) (now (message .exit)) r ⌝ }
 {
-    match degree_of(degree) {
-        Named::Known(d) => {
-            let number = extract_tests(d, cells, message.len());
-            if number == 0 {
-                extract_message(d, cells, message);
-            }
-            number
-        },
-        Named::Unknown => 1,
+    let call = extract_test(degree, cells, message);
+    match call {
+        Call::Taken(d) => {
+            extract_message(d, cells, message);
+            0
+        }
+        Call::Refused(why) => number_of(why),
     }
 }

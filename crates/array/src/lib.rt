@@ -2,11 +2,10 @@
 pub mod encoding; // encode
 pub mod extraction; // extract
 pub mod rows; // the look-up of a row
-mod refusals; // the tests of the calls encode, extract and row
+mod refusals; // the tests of the calls
 mod packing; // the rows of an array, packed in words
 mod halves; // the row half and the column half
 mod iterations; // the iterations of a decoding
 pub mod report; // what is told of the array that a decoding leaves
 mod decoding; // the decoding of an array that was taken
-mod decode_refusals; // the tests of the call decode
 pub mod entry; // decode, for a caller outside

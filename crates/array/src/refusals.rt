@@ -1,41 +1,87 @@
-// The tests 3 and 4 of encode, extract and the look-up of a row, after `degree_of` at the entry.
+// The tests of the calls on arrays, in the order of their numbers. No cell is read before the lengths are known to be right.
 use degree::Degree;
+use degree::Named;
+use degree::degree_of;
 use degree::size_of;
 use line::packed::Line;
-use line::refusals::at_most;
-ghost use mathlib.Core.Path.{_≡_};
-ghost use Rattle.array.specs.Refusals.{lentTests, encodeTests, extractTests, rowTests};
+use line::refusals::Call;
+use line::refusals::Refusal;
+use line::refusals::lent_test;
+ghost use mathlib.Core.List.{[]};
+ghost use Rattle.degree.specs.Degree.{bits};
+ghost use Rattle.line.specs.Refusals.{Tested};
+ghost use Rattle.array.specs.Refusals.{encodeTests, extractTests, rowTests, decodeTests};
 
-// Tests 3 and 4 of a slice that is lent, where it is known whether all lengths are right.
-fn lent_tests(right: bool, bound: u8, cells: &[u8]) -> u64
-    ensures { λ r. ⌜ r ≡ lentTests right bound (now (cells .entry)) ⌝ }
+pub fn encode_test(degree: u64, message: &[u8], cells: &[u8]) -> Call
+    ensures { λ r. ⌜ Tested degree (encodeTests degree (now (message .entry)) (now (cells .entry))) r ⌝ }
 {
-    if right {
-        if at_most(bound, cells) { 0 } else { 4 }
-    } else {
-        3
+    let named = degree_of(degree);
+    match named {
+        Named::Known(d) => {
+            let n = size_of(d);
+            let k = Line::message_cells(d);
+            let wrong = (message.len() != k * k) | (cells.len() != n * n);
+            lent_test(d, wrong, 1, message)
+        }
+        Named::Unknown => Call::Refused(Refusal::BadDegree),
     }
 }
 
-pub fn encode_tests(d: Degree, message: &[u8], long: usize) -> u64
-    ensures { λ r. ⌜ r ≡ encodeTests (now (message .entry)) long d ⌝ }
+pub fn extract_test(degree: u64, cells: &[u8], message: &[u8]) -> Call
+    ensures { λ r. ⌜ Tested degree (extractTests degree (now (cells .entry)) (now (message .entry))) r ⌝ }
 {
-    let n = size_of(d);
-    let k = Line::message_cells(d);
-    lent_tests((message.len() == k * k) & (long == n * n), 1, message)
+    let named = degree_of(degree);
+    match named {
+        Named::Known(d) => {
+            let n = size_of(d);
+            let k = Line::message_cells(d);
+            let wrong = (cells.len() != n * n) | (message.len() != k * k);
+            lent_test(d, wrong, 2, cells)
+        }
+        Named::Unknown => Call::Refused(Refusal::BadDegree),
+    }
 }
 
-pub fn extract_tests(d: Degree, cells: &[u8], long: usize) -> u64
-    ensures { λ r. ⌜ r ≡ extractTests (now (cells .entry)) long d ⌝ }
+pub fn row_test(degree: u64, cells: &[u8], index: usize) -> Call
+    ensures { λ r. ⌜ Tested degree (rowTests degree (now (cells .entry)) index []) r ⌝ }
 {
-    let n = size_of(d);
-    let k = Line::message_cells(d);
-    lent_tests((cells.len() == n * n) & (long == k * k), 2, cells)
+    let named = degree_of(degree);
+    match named {
+        Named::Known(d) => {
+            let n = size_of(d);
+            let wrong = (cells.len() != n * n) | (n <= index);
+            lent_test(d, wrong, 2, cells)
+        }
+        Named::Unknown => Call::Refused(Refusal::BadDegree),
+    }
 }
 
-pub fn row_tests(d: Degree, cells: &[u8], index: usize) -> u64
-    ensures { λ r. ⌜ r ≡ rowTests (now (cells .entry)) index d ⌝ }
+// The tests of decode at a degree. The lengths are reckoned only for few iterations, so that they fit a number.
+fn known_test(d: Degree, iterations: u64, received: &[u8], filling: &[u64], cells: &[u8]) -> Call
+    ensures { λ r. ⌜ Tested (bits d) (decodeTests (bits d) iterations (now (received .entry)) (now (filling .entry)) (now (cells .entry)) []) r ⌝ }
 {
-    let n = size_of(d);
-    lent_tests((cells.len() == n * n) & (index < n), 2, cells)
+    if (iterations == 0) | (20 < iterations) {
+        Call::Refused(Refusal::BadIterations)
+    } else {
+        let n = size_of(d);
+        let words = 2 * (iterations as usize) * n;
+        let wrong = (received.len() != n * n) | ((filling.len() != words) | (cells.len() != n * n));
+        lent_test(d, wrong, 2, received)
+    }
+}
+
+pub fn decode_test(
+    degree: u64,
+    iterations: u64,
+    received: &[u8],
+    filling: &[u64],
+    cells: &[u8],
+) -> Call
+    ensures { λ r. ⌜ Tested degree (decodeTests degree iterations (now (received .entry)) (now (filling .entry)) (now (cells .entry)) []) r ⌝ }
+{
+    let named = degree_of(degree);
+    match named {
+        Named::Known(d) => known_test(d, iterations, received, filling, cells),
+        Named::Unknown => Call::Refused(Refusal::BadDegree),
+    }
 }

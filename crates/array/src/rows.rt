@@ -1,18 +1,19 @@
 // The look-up of a row.
-use crate::refusals::row_tests;
-use degree::Named;
-use degree::degree_of;
+use crate::refusals::row_test;
 use degree::size_of;
+use line::refusals::Call;
+use line::refusals::number_of;
 ghost use mathlib.Core.Path.{_≡_};
-ghost use Rattle.array.specs.Refusals.{rowRefusal, rowPart};
+ghost use Rattle.array.specs.Entries.{rowRefusal, rowPart};
 
 // Entry: the refusal number of a look-up, 0 for none.
 pub fn row_refusal(degree: u64, cells: &[u8], index: usize) -> u64
     ensures { λ r. ⌜ r ≡ rowRefusal degree (now (cells .entry)) index ⌝ }
 {
-    match degree_of(degree) {
-        Named::Known(d) => row_tests(d, cells, index),
-        Named::Unknown => 1,
+    let call = row_test(degree, cells, index);
+    match call {
+        Call::Taken(_) => 0,
+        Call::Refused(why) => number_of(why),
     }
 }
 
@@ -21,15 +22,13 @@ pub fn row_refusal(degree: u64, cells: &[u8], index: usize) -> u64
 pub fn row<'a>(degree: u64, cells: &'a [u8], index: usize) -> &'a [u8]
     ensures { λ r. ⌜ now r ≡ rowPart degree (now (cells .entry)) index ⌝ }
 {
-    match degree_of(degree) {
-        Named::Known(d) => {
-            if row_tests(d, cells, index) != 0 {
-                return &cells[0..0];
-            }
+    let call = row_test(degree, cells, index);
+    match call {
+        Call::Taken(d) => {
             let n = size_of(d);
             let at = index * n;
             &cells[at..at + n]
         },
-        Named::Unknown => &cells[0..0],
+        Call::Refused(_) => &cells[0..0],
     }
 }

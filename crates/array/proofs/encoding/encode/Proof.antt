@@ -1,27 +1,31 @@
--- `encoding::encode` meets its contract: the tests of a taken call say that the message and the cells are of the right form.
+-- `array::encoding::encode` meets its contract: the tests of a taken call say that what is lent is of the right form.
 -- Assumes nothing.
 use mathlib.Core.Path.{sym, _∙_}
-use Rattle.array.proofs.Refusing.{encode-taken, answered-taken, answered-refused, answered-unknown}
+use Rattle.line.proofs.Refusing.{given-taken, given-refused}
+use Rattle.array.specs.Encoding.{encodeArray}
+use Rattle.array.specs.Refusals.{encodeTests}
+use Rattle.array.proofs.Refusing.{encode-taken}
 use borrow.Author.Needs.{needs}
 use Rattle.array.proofs.encoding.encode.Statement.{statement}
 use Rattle.array.proofs.encoding.encode.Tie as tie
 
-degree-of-requires : tie.Need-degree-of-requires
-degree-of-requires c κs = search needs
+encode-test-requires : tie.Need-encode-test-requires
+encode-test-requires c κs = search needs
 
-enum-known-d : tie.Need-enum-known-d
-enum-known-d c = search needs
-
-encode-tests-requires : tie.Need-encode-tests-requires
-encode-tests-requires c κs = search needs
+enum-known-call : tie.Need-enum-known-call
+enum-known-call c = search needs
 
 encode-array-requires : tie.Need-encode-array-requires
 encode-array-requires c κs =
     let q = c .before .before in
-    encode-taken (q .before .before .d .given .0 .0) _ _ (sym (q .encode-tests .ensures) ∙ c .before .if1 .taken)
+    let s = q .before .before .before .before .before .before .args in
+    encode-taken (s .degree) (s .message .now) (s .cells .now) (q .call .given .0 .0) (rw (q .call .given .1) at (q .before .before .encode-test .ensures))
 
-enum-told : tie.Need-enum-told
-enum-told c = search needs
+enum-known-call-2 : tie.Need-enum-known-call-2
+enum-known-call-2 c = search needs
+
+number-of-requires : tie.Need-number-of-requires
+number-of-requires c κs = search needs
 
 same-length : tie.Need-same-length
 same-length c = search needs
@@ -29,28 +33,36 @@ same-length c = search needs
 returns : tie.Need-returns
 returns c =
     let q = c .before .before .before .before .before in
-    let v = sym (q .before .before .before .before .degree-of .ensures) ∙ q .before .before .d .given .1 in
-    answered-taken v (q .encode-tests .ensures) (c .before .before .before .before .if1 .taken) (c .before .before .encode-array .ensures)
+    let s = q .before .before .before .before .before .before .args in
+    let h = rw (q .call .given .1) at (q .before .before .encode-test .ensures) in
+    record {
+      refusal = sym (h .0);
+      cells = c .before .before .encode-array .ensures ∙ sym (given-taken (encodeTests (s .degree) (s .message .now) (s .cells .now)) (s .degree) (λ d. encodeArray d (s .message .now)) (s .cells .now) h);
+    }
+
+same-length-2 : tie.Need-same-length-2
+same-length-2 c = search needs
 
 returns-2 : tie.Need-returns-2
 returns-2 c =
-    let q = c .before in
-    let v = sym (q .before .before .before .before .degree-of .ensures) ∙ q .before .before .d .given .1 in
-    answered-refused v (q .encode-tests .ensures) (c .if1 .left)
-
-returns-3 : tie.Need-returns-3
-returns-3 c = answered-unknown (sym (c .before .before .degree-of .ensures) ∙ c .enum-told .given .1)
+    let q = c .before .before in
+    let s = q .before .before .before .before .before .before .args in
+    let h = rw (q .call2 .given .1) at (q .before .before .encode-test .ensures) in
+    record {
+      refusal = c .number-of .ensures ∙ h;
+      cells = sym (given-refused (encodeTests (s .degree) (s .message .now) (s .cells .now)) (s .degree) (λ d. encodeArray d (s .message .now)) (s .cells .now) (q .call2 .given .0 .0) h);
+    }
 
 pub encode-spec : {M : Type 1} → statement M
 encode-spec =
     tie.close
     (tie.spec
-    degree-of-requires
-    enum-known-d
-    encode-tests-requires
+    encode-test-requires
+    enum-known-call
     encode-array-requires
-    enum-told
+    enum-known-call-2
+    number-of-requires
     same-length
     returns
-    returns-2
-    returns-3)
+    same-length-2
+    returns-2)

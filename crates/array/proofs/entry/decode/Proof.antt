@@ -1,7 +1,7 @@
--- `entry::decode` meets its contract: the tests of a taken call say what its decoding asks for; a refused one writes no cell.
+-- `array::entry::decode` meets its contract: a call that is taken is answered by `decode_taken`, one that is refused leaves all as it came.
 -- Assumes nothing.
-use mathlib.Core.Path.{sym, _∙_}
-use Rattle.array.proofs.DecodeLaws.{call-taken, done-taken, done-refused}
+use Rattle.array.proofs.Refusing.{decode-takes}
+use Rattle.array.proofs.DecodeLaws.{done-taken, done-refused}
 use borrow.Author.Needs.{needs}
 use Rattle.array.proofs.entry.decode.Statement.{statement}
 use Rattle.array.proofs.entry.decode.Tie as tie
@@ -17,11 +17,10 @@ line-tables-requires c κs = search needs
 
 decode-taken-requires : tie.Need-decode-taken-requires
 decode-taken-requires c κs =
-    let far = c .before .before .before .before in
-    let s = far .before .before .before .before .before .before .before .args in
-    let g = far .call .given in
-    let q = call-taken (s .degree) (s .iterations) (s .received .now) (s .filling .now) (s .cells .now) (g .0 .0) (sym (far .before .before .decode-test .ensures) ∙ g .1) in
-    (q .0, q .1, q .2, q .3, c .before .before .line-tables .ensures)
+    let q = c .before .before .before .before in
+    let s = q .before .before .before .before .before .before .before .args in
+    let h = decode-takes (s .degree) (s .iterations) (s .received .now) (s .filling .now) (s .cells .now) (q .call .given .0 .0) (rw (q .call .given .1) at (q .before .before .decode-test .ensures)) in
+    (h .0, h .1, h .2, h .3, c .before .before .line-tables .ensures)
 
 enum-known-call-2 : tie.Need-enum-known-call-2
 enum-known-call-2 c = search needs
@@ -31,17 +30,20 @@ same-length c = search needs
 
 returns : tie.Need-returns
 returns c =
-    let far = c .before .before .before .before .before .before .before in
-    let s = far .before .before .before .before .before .before .before .args in
-    done-taken (s .degree) (s .iterations) (s .received .now) (s .filling .now) (s .cells .now) (sym (far .before .before .decode-test .ensures) ∙ far .call .given .1) (c .before .before .decode-taken .ensures)
+    let q = c .before .before .before .before .before .before .before in
+    let s = q .before .before .before .before .before .before .before .args in
+    done-taken (s .degree) (s .iterations) (s .received .now) (s .filling .now) (s .cells .now)
+    (rw (q .call .given .1) at (q .before .before .decode-test .ensures)) (c .before .before .decode-taken .ensures)
 
 same-length-2 : tie.Need-same-length-2
 same-length-2 c = search needs
 
 returns-2 : tie.Need-returns-2
 returns-2 c =
-    let s = c .before .before .before .before .before .before .before .before .args in
-    done-refused (s .degree) (s .iterations) (s .received .now) (s .filling .now) (s .cells .now) (sym (c .before .before .before .decode-test .ensures) ∙ c .before .call2 .given .1)
+    let q = c .before in
+    let s = q .before .before .before .before .before .before .before .args in
+    done-refused (s .degree) (s .iterations) (s .received .now) (s .filling .now) (s .cells .now) (q .call2 .given .0 .0)
+    (rw (q .call2 .given .1) at (q .before .before .decode-test .ensures))
 
 pub decode-spec : {M : Type 1} → statement M
 decode-spec =

@@ -1,29 +1,31 @@
--- `extraction::extract` meets its contract: the tests of a taken call say that the cells and the message are of the right form.
+-- `array::extraction::extract` meets its contract: the tests of a taken call say that what is lent is of the right form.
 -- Assumes nothing.
 use mathlib.Core.Path.{sym, _∙_}
-use lib.ListN.{length}
-use Rattle.array.proofs.Refusing.{extract-taken, answered-taken, answered-refused, answered-unknown}
+use Rattle.line.proofs.Refusing.{given-taken, given-refused}
+use Rattle.array.specs.Encoding.{extracted}
+use Rattle.array.specs.Refusals.{extractTests}
+use Rattle.array.proofs.Refusing.{extract-taken}
 use borrow.Author.Needs.{needs}
 use Rattle.array.proofs.extraction.extract.Statement.{statement}
 use Rattle.array.proofs.extraction.extract.Tie as tie
 
-degree-of-requires : tie.Need-degree-of-requires
-degree-of-requires c κs = search needs
+extract-test-requires : tie.Need-extract-test-requires
+extract-test-requires c κs = search needs
 
-enum-known-d : tie.Need-enum-known-d
-enum-known-d c = search needs
-
-extract-tests-requires : tie.Need-extract-tests-requires
-extract-tests-requires c κs = search needs
+enum-known-call : tie.Need-enum-known-call
+enum-known-call c = search needs
 
 extract-message-requires : tie.Need-extract-message-requires
 extract-message-requires c κs =
     let q = c .before .before in
-    let s = q .before .before .before .before .before .before .before .args in
-    extract-taken (q .before .before .d .given .0 .0) (s .cells .now) (length (s .message .now)) (sym (q .extract-tests .ensures) ∙ c .before .if1 .taken)
+    let s = q .before .before .before .before .before .before .args in
+    extract-taken (s .degree) (s .cells .now) (s .message .now) (q .call .given .0 .0) (rw (q .call .given .1) at (q .before .before .extract-test .ensures))
 
-enum-told : tie.Need-enum-told
-enum-told c = search needs
+enum-known-call-2 : tie.Need-enum-known-call-2
+enum-known-call-2 c = search needs
+
+number-of-requires : tie.Need-number-of-requires
+number-of-requires c κs = search needs
 
 same-length : tie.Need-same-length
 same-length c = search needs
@@ -31,28 +33,36 @@ same-length c = search needs
 returns : tie.Need-returns
 returns c =
     let q = c .before .before .before .before .before in
-    let v = sym (q .before .before .before .before .degree-of .ensures) ∙ q .before .before .d .given .1 in
-    answered-taken v (q .extract-tests .ensures) (c .before .before .before .before .if1 .taken) (c .before .before .extract-message .ensures)
+    let s = q .before .before .before .before .before .before .args in
+    let h = rw (q .call .given .1) at (q .before .before .extract-test .ensures) in
+    record {
+      refusal = sym (h .0);
+      message = c .before .before .extract-message .ensures ∙ sym (given-taken (extractTests (s .degree) (s .cells .now) (s .message .now)) (s .degree) (λ d. extracted d (s .cells .now)) (s .message .now) h);
+    }
+
+same-length-2 : tie.Need-same-length-2
+same-length-2 c = search needs
 
 returns-2 : tie.Need-returns-2
 returns-2 c =
-    let q = c .before in
-    let v = sym (q .before .before .before .before .degree-of .ensures) ∙ q .before .before .d .given .1 in
-    answered-refused v (q .extract-tests .ensures) (c .if1 .left)
-
-returns-3 : tie.Need-returns-3
-returns-3 c = answered-unknown (sym (c .before .before .degree-of .ensures) ∙ c .enum-told .given .1)
+    let q = c .before .before in
+    let s = q .before .before .before .before .before .before .args in
+    let h = rw (q .call2 .given .1) at (q .before .before .extract-test .ensures) in
+    record {
+      refusal = c .number-of .ensures ∙ h;
+      message = sym (given-refused (extractTests (s .degree) (s .cells .now) (s .message .now)) (s .degree) (λ d. extracted d (s .cells .now)) (s .message .now) (q .call2 .given .0 .0) h);
+    }
 
 pub extract-spec : {M : Type 1} → statement M
 extract-spec =
     tie.close
     (tie.spec
-    degree-of-requires
-    enum-known-d
-    extract-tests-requires
+    extract-test-requires
+    enum-known-call
     extract-message-requires
-    enum-told
+    enum-known-call-2
+    number-of-requires
     same-length
     returns
-    returns-2
-    returns-3)
+    same-length-2
+    returns-2)
