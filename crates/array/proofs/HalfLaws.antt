@@ -1,14 +1,13 @@
--- A half, a line a turn, for rows and for columns alike.
+-- A half, a line a turn, for rows and for columns alike; and the rows written after the columns.
 -- Assumes nothing.
 use mathlib.Core.Path.{_≡_, refl, sym, ap, ap₂, _∙_}
-use mathlib.Core.List.{List, _++_, append-assoc, append-nil}
-use Prim.Native.Nat.{ℕ, suc, _+_, _-_, _*_, _%_, _<_, _≤_}
-use native.Mathlib.Nat.{suc-mul, zero-mul}
+use mathlib.Core.List.{List}
+use Prim.Native.Nat.{ℕ, _+_, _-_, _*_, _%_, _<_, _≤_}
+use native.Mathlib.Nat.{zero-mul}
 use native.Mathlib.Numerals.{add-one}
 use native.Mathlib.Omega.{arith}
-use borrow.Rule.Slice.PartMut.{putMid}
-use lib.ListN.{length, take, drop, getD, set, drop-of-length-le}
-use lib.Seq.{drop-drop, drop-at, take-at, take-all, take-add}
+use borrow.Rule.Slice.PartMut.{putMid, same-len-mid}
+use lib.ListN.{length, take, drop, getD}
 use Rattle.laws.specs.Sums.{sumTo}
 use Rattle.degree.specs.declared.Degree.{Degree}
 use Rattle.degree.specs.Degree.{size}
@@ -22,40 +21,13 @@ use Rattle.line.specs.SentRows.{SentRow}
 use Rattle.line.specs.declared.packed.Line.{Line}
 use Rattle.line.specs.declared.decoding.Sent.{Sent}
 use Rattle.line.proofs.LineLaw.{messages-line}
-use Rattle.line.proofs.CountLaws.{count-le}
 use Rattle.line.proofs.RowLaws.{size-room, size-eights}
-use Rattle.array.specs.Arrays.{line, lines, transpose}
-use Rattle.words.specs.Network.{Turned}
+use Rattle.array.specs.Arrays.{line, withLine, transpose}
 use Rattle.array.specs.Halves.{rowHalf, rowCount, columnHalf, columnCount}
-use Rattle.array.specs.Steps.{IsArray, Held, RowsDone, ColumnsDone}
-use Rattle.array.proofs.ArrayLaws.{Even, length-lines, line-cells}
-use Rattle.array.proofs.PackedLaws.{put, put-drop, put-take, put-length, row-room, held-line, held-put, held-turned}
-
--- ---- the first lines of an array replaced
-
-abbrev soFar : ℕ → (ℕ → List ℕ) → List ℕ → ℕ → List ℕ
-soFar n g m i = lines g i ++ drop (i * n) m
-
-module _ (n : ℕ) (g : ℕ → List ℕ) (m : List ℕ) where
-  far-start : m ≡ soFar n g m 0
-  unfolding lines
-  far-start = sym (ap (λ (x : ℕ). drop x m) (zero-mul n))
-
-  module _ (i : ℕ) (e : Even n g i) where
-    -- line i is still what it was
-    far-line : line n (soFar n g m i) i ≡ line n m i
-    far-line = ap (take n) (drop-at (lines g i) (drop (i * n) m) (i * n) (length-lines n g i e))
-
-    -- line i replaced too
-    far-next : put (i * n) n (soFar n g m i) (g i) ≡ soFar n g m (suc i)
-    unfolding lines
-    far-next =
-        let len = length-lines n g i e in
-        rw (take-at (lines g i) (drop (i * n) m) (i * n) len, drop-at (lines g i) (drop (i * n) m) (i * n) len, drop-drop n (i * n) m, suc-mul, append-assoc)
-
-  -- all k lines replaced
-  far-end : (k : ℕ) → length m ≡ k * n → soFar n g m k ≡ lines g k
-  far-end k l = ap (λ (x : List ℕ). lines g k ++ x) (drop-of-length-le m {i = k * n} (omega arith)) ∙ append-nil (lines g k)
+use Rattle.array.specs.PackedRows.{Held, LineIn, LinePut, RowsTurned}
+use Rattle.array.specs.Steps.{IsArray, StepDone}
+use Rattle.array.proofs.ArrayLaws.{Even, length-line, line-cells, lines-are}
+use Rattle.array.proofs.PackedLaws.{soFar, far-start, far-line, far-next, far-end, line-lent, line-back, next-place, row-room}
 
 -- ---- a half
 
@@ -67,198 +39,200 @@ abbrev sentCount : Degree → List ℕ → List ℕ → List ℕ → ℕ → ℕ
 sentCount d m r w i = countOf (bounded d) (line (size d) m i) (line (size d) r i) (getD w i 0)
 
 -- i lines of m are done: the array s, packed, and the count
-pub record HalfAt (d : Degree) (m r w s ones erased : List ℕ) (count i at : ℕ) : Type 0 where
-  pub low : i ≤ size d
-  pub place : at ≡ i * size d
+pub record HalfAt (d : Degree) (m r w s rows : List ℕ) (count i : ℕ) : Type 0 where
   pub source : IsArray d m
   pub channel : IsArray d r
   pub cells : s ≡ soFar (size d) (sent d m r w) m i
-  pub held : Held (size d) s ones erased
+  pub held : Held (size d) s rows
   pub sum : count ≡ sumTo (sentCount d m r w) i
-  pub small : count ≤ 128 * i
 
-pub half-start : {d : Degree} {m r ones erased : List ℕ} (w : List ℕ) → Held (size d) m ones erased → IsArray d r → HalfAt d m r w m ones erased 0 0 0
+half-start : {d : Degree} {m r rows : List ℕ} (w : List ℕ) → Held (size d) m rows → IsArray d r → HalfAt d m r w m rows 0 0
 unfolding sumTo
-half-start {d} {m} {r} w k a = record {
-  low = omega arith;
-  place = sym (zero-mul (size d));
-  source = k .array;
-  channel = a;
-  cells = far-start (size d) (sent d m r w) m;
-  held = k;
-  sum = refl;
-  small = omega arith;
-}
+half-start {d} {m} {r} w k a = record { source = k .array; channel = a; cells = far-start (size d) (sent d m r w) m; held = k; sum = refl }
 
-module _ {d : Degree} {m r w s ones erased : List ℕ} {count i at : ℕ} (k : HalfAt d m r w s ones erased count i at) where
+module _ {d : Degree} {m r w s rows : List ℕ} {count i : ℕ} (k : HalfAt d m r w s rows count i) where
   module _ (h : i < size d) where
-    sent-line : (j : ℕ) → j < size d → IsLine (size d) (sent d m r w j)
-    sent-line j q = messages-line d (getD w j 0) (line-cells (size d) (size d) j (k .source) q) (line-cells (size d) (size d) j (k .channel) q)
-
     even : Even (size d) (sent d m r w) i
-    even j q = sent-line j (omega arith) .long
+    even j q = messages-line d (getD w j 0) (line-cells (size d) (size d) j (k .source) (omega arith)) (line-cells (size d) (size d) j (k .channel) (omega arith)) .long
 
     -- the line at hand is still m's
     half-line : line (size d) s i ≡ line (size d) m i
     half-line = rw (k .cells) (far-line (size d) (sent d m r w) m i even)
 
     -- it is done: its messages, packed, and its count
-    half-next : {v : Sent} {ones′ erased′ : List ℕ} → Packs (size d) (sent d m r w i) (v .line) → v .count ≡ sentCount d m r w i
-        → (ones′ ≡ set ones i (v .line .ones)) × (erased′ ≡ set erased i (v .line .erased))
-        → HalfAt d m r w (put (i * size d) (size d) s (sent d m r w i)) ones′ erased′ (count + v .count) (i + 1) (at + size d)
+    half-next : {v : Sent} {rows′ : List ℕ} → Packs (size d) (sent d m r w i) (v .line) → v .count ≡ sentCount d m r w i → LinePut rows i (v .line) rows′
+        → HalfAt d m r w (withLine (size d) s i (sent d m r w i)) rows′ (count + v .count) (i + 1)
     unfolding sumTo
-    half-next {v} p c q =
-        let most : v .count ≤ size d + 2 = rw c (count-le d (line (size d) m i) (line (size d) r i) (getD w i 0) (line-cells (size d) (size d) i (k .source) h)) in
-        record {
-          low = omega arith;
-          place = rw (add-one, suc-mul, ← k .place);
-          source = k .source;
-          channel = k .channel;
-          cells = rw (k .cells, add-one) (far-next (size d) (sent d m r w) m i even);
-          held = rw (q .0, q .1) (held-put i (k .held) h p);
-          sum = rw add-one (ap₂ (λ (x y : ℕ). x + y) (k .sum) c);
-          small = omega (arith, k .small, size-room d);
-        }
+    half-next p c put = record {
+      source = k .source;
+      channel = k .channel;
+      cells = rw (k .cells, add-one) (far-next (size d) (sent d m r w) m i even);
+      held = put (size d) s (sent d m r w i) (k .held) h p;
+      sum = rw add-one (ap₂ (λ (x y : ℕ). x + y) (k .sum) c);
+    }
 
-  pub half-end : {n : ℕ} → n ≡ size d → n ≤ i → RowsDone d m r w s ones erased count
+  half-end : i ≡ size d → StepDone (size d) (rowHalf d m r w) (rowCount d m r w) s rows count
   unfolding rowHalf rowCount
-  half-end {n} e h =
+  half-end z =
+      let e : s ≡ rowHalf d m r w = k .cells ∙ rw z (far-end (size d) (sent d m r w) m (size d) (k .source .long)) in
+      record { cells = e; held = rw (← e) (k .held); sum = k .sum ∙ rw z }
+
+-- ---- the row half: line i is lent as a part of the array
+
+-- i rows of m, which rows₀ hold, are done. The count is small whatever the words hold.
+pub record RowsAt (d : Degree) (m rows₀ channel w s rows : List ℕ) (count i at : ℕ) : Type 0 where
+  pub low : i ≤ size d
+  pub place : at ≡ i * size d
+  pub long : length s ≡ size d * size d
+  pub small : count ≤ 130 * i
+  pub done : (r : List ℕ) → Held (size d) m rows₀ → Held (size d) r channel → HalfAt d m r w s rows count i
+
+pub rows-start : {d : Degree} (m rows channel w : List ℕ) → length m ≡ size d * size d → RowsAt d m rows channel w m rows 0 0 0
+rows-start {d} m rows channel w l = record {
+  low = omega arith;
+  place = sym (zero-mul (size d));
+  long = l;
+  small = omega arith;
+  done = λ r k c. half-start w k (c .array);
+}
+
+-- n is the code's number for `size d`
+module _ {d : Degree} {m rows₀ channel w s rows : List ℕ} {count i at n : ℕ} (k : RowsAt d m rows₀ channel w s rows count i at) (e : n ≡ size d) where
+  module _ (h : i < n) where
+    inside : i < size d
+    inside = omega arith
+
+    -- the row lies within
+    pub rows-room : at + n ≤ length s
+    rows-room = omega (arith, k .place, row-room (size d) i s (k .long) inside)
+
+    lent : take (at + n - at) (drop at s) ≡ line (size d) s i
+    lent = rw e (line-lent (size d) i at s (k .place))
+
+    -- and is made of whole parts of eight cells
+    pub rows-lent : length (take (at + n - at) (drop at s)) % 8 ≡ 0
+    rows-lent = rw (lent, length-line (size d) (size d) s i inside (k .long)) (size-eights d)
+
+    pub rows-next : {o l : Line} {y rows′ : List ℕ} {v : Sent} → LineIn rows i o → LineIn channel i l
+        → SentRow d o l (getD w i 0) (take (at + n - at) (drop at s)) y v → LinePut rows i (v .line) rows′
+        → RowsAt d m rows₀ channel w (putMid at (at + n - at) s y) rows′ (count + v .count) (i + 1) (at + n)
+    rows-next {o} {l} {y} {rows′} {v} f g q put = record {
+      low = omega arith;
+      place = rw e (next-place (size d) i at s (k .place));
+      long = same-len-mid at (at + n - at) s y (q .long) ∙ k .long;
+      small = omega (arith, k .small, q .most);
+      done = λ r held channel.
+          let t = k .done r held channel in
+          let is : take (at + n - at) (drop at s) ≡ line (size d) m i = lent ∙ half-line t inside in
+          let x : Packs (size d) (take (at + n - at) (drop at s)) o = rw lent (f (size d) s (t .held) inside) in
+          let p : Packs (size d) (line (size d) r i) l = g (size d) r channel inside in
+          let a : y ≡ sent d m r w i = rw is at (q .cells (line (size d) r i) x p) in
+          let b : Packs (size d) (sent d m r w i) (v .line) = rw is at (q .line (line (size d) r i) x p) in
+          let c : v .count ≡ sentCount d m r w i = rw is at (q .count (line (size d) r i) x p) in
+          rw (e, a, line-back (size d) i at s (k .place)) (half-next t inside b c put);
+    }
+
+  pub rows-end : n ≤ i → (count ≤ 8320) × ((r : List ℕ) → Held (size d) m rows₀ → Held (size d) r channel → StepDone (size d) (rowHalf d m r w) (rowCount d m r w) s rows count)
+  rows-end h =
       let z : i ≡ size d = omega (arith, k .low) in
-      record {
-        cells = k .cells ∙ rw z (far-end (size d) (sent d m r w) m (size d) (k .source .long));
-        held = k .held;
-        sum = k .sum ∙ rw z;
-        small = omega (arith, k .small, size-room d);
-      }
-
--- ---- the row half: line i is lent as a part of the array. n is the code's number for `size d`.
-
-module _ {d : Degree} {m r w s ones erased : List ℕ} {count i at n : ℕ} (k : HalfAt d m r w s ones erased count i at) (e : n ≡ size d) (h : i < n) where
-  -- it lies within
-  pub half-room : at + n ≤ length s
-  half-room =
-      let f : at ≡ i * size d = k .place in
-      let q : i * size d + size d ≤ length s = row-room (size d) (k .held .array) i (omega arith) in
-      omega arith
-
-  inside : i < size d
-  inside = omega arith
-
-  lent : take (at + n - at) (drop at s) ≡ line (size d) m i
-  lent =
-      let z : at + n - at ≡ size d = omega arith in
-      rw (z, k .place) (half-line k inside)
-
-  pub half-lent : length (take (at + n - at) (drop at s)) % 8 ≡ 0
-  half-lent = rw (lent, line-cells (size d) (size d) i (k .source) inside .long) (size-eights d)
-
-  pub half-row : {o l : Line} {ro re y ones′ erased′ : List ℕ} {v : Sent} → Held (size d) r ro re → (o .ones ≡ getD ones i 0) × (o .erased ≡ getD erased i 0)
-      → (l .ones ≡ getD ro i 0) × (l .erased ≡ getD re i 0) → SentRow d o l (getD w i 0) (take (at + n - at) (drop at s)) y v
-      → (ones′ ≡ set ones i (v .line .ones)) × (erased′ ≡ set erased i (v .line .erased))
-      → HalfAt d m r w (putMid at (at + n - at) s y) ones′ erased′ (count + v .count) (i + 1) (at + n)
-  half-row {o} {l} {ro} {re} {y} {ones′} {erased′} {v} c t f q u =
-      let z : at + n - at ≡ size d = omega arith in
-      let x : Packs (size d) (take (at + n - at) (drop at s)) o = rw lent (rw (half-line k inside) at (held-line i (k .held) inside t)) in
-      let p : Packs (size d) (line (size d) r i) l = held-line i c inside f in
-      let a : y ≡ sent d m r w i = rw lent at (q .cells (line (size d) r i) x p) in
-      let b : Packs (size d) (sent d m r w i) (v .line) = rw lent at (q .line (line (size d) r i) x p) in
-      let g : v .count ≡ sentCount d m r w i = rw lent at (q .count (line (size d) r i) x p) in
-      rw (z, e, a, k .place) (rw (k .place) at (half-next k inside b g u))
+      (omega (arith, k .small, size-room d), λ r held channel. half-end (k .done r held channel) z)
 
 -- ---- the columns: no array is at hand but the words
 
-abbrev pub ColumnsAt : Degree → List ℕ → List ℕ → List ℕ → List ℕ → List ℕ → ℕ → ℕ → Type 0
-ColumnsAt d m r w ones erased count i = HalfAt d m r w (soFar (size d) (sent d m r w) m i) ones erased count i (i * size d)
+-- i lines of what columns₀ hold are done
+pub record ColumnsAt (d : Degree) (columns₀ channel w columns : List ℕ) (count i : ℕ) : Type 0 where
+  pub low : i ≤ size d
+  pub small : count ≤ 130 * i
+  pub done : (m r : List ℕ) → Held (size d) m columns₀ → Held (size d) r channel → HalfAt d m r w (soFar (size d) (sent d m r w) m i) columns count i
 
-again : {d : Degree} {m r w s ones erased : List ℕ} {count i at : ℕ} → HalfAt d m r w s ones erased count i at → ColumnsAt d m r w ones erased count i
-again k = rw (← k .cells, ← k .place) k
+again : {d : Degree} {m r w s rows : List ℕ} {count i : ℕ} → HalfAt d m r w s rows count i → HalfAt d m r w (soFar (size d) (sent d m r w) m i) rows count i
+again k = rw (← k .cells) k
 
-pub columns-start : {d : Degree} {m r ones erased : List ℕ} (w : List ℕ) → Held (size d) m ones erased → IsArray d r → ColumnsAt d m r w ones erased 0 0
-columns-start w k a = again (half-start w k a)
+pub columns-start : {d : Degree} (columns channel w : List ℕ) → ColumnsAt d columns channel w columns 0 0
+columns-start columns channel w = record { low = omega arith; small = omega arith; done = λ m r k c. again (half-start w k (c .array)) }
 
-pub columns-next : {d : Degree} {m r w ones erased ro re ones′ erased′ : List ℕ} {count i n : ℕ} {y l : Line} {v : Sent} → ColumnsAt d m r w ones erased count i → Held (size d) r ro re → n ≡ size d → i < n
-    → (y .ones ≡ getD ones i 0) × (y .erased ≡ getD erased i 0) → (l .ones ≡ getD ro i 0) × (l .erased ≡ getD re i 0)
-    → ((ys rs : List ℕ) → Packs (size d) ys y → Packs (size d) rs l → Packs (size d) (messages (bounded d) ys rs (getD w i 0)) (v .line) × (v .count ≡ countOf (bounded d) ys rs (getD w i 0)))
-    → (ones′ ≡ set ones i (v .line .ones)) × (erased′ ≡ set erased i (v .line .erased))
-    → ColumnsAt d m r w ones′ erased′ (count + v .count) (i + 1)
-columns-next {d} {m} {r} {w} {ones} {erased} {i} {y} {v} k c e h f g q u =
-    let z : i < size d = omega arith in
-    let p : Packs (size d) (line (size d) m i) y = rw (half-line k z) at (held-line i (k .held) z f) in
-    let b = q (line (size d) m i) (line (size d) r i) p (held-line i c z g) in
-    again (half-next k z {v = v} (b .0) (b .1) u)
+module _ {d : Degree} {columns₀ channel w columns : List ℕ} {count i n : ℕ} (k : ColumnsAt d columns₀ channel w columns count i) (e : n ≡ size d) where
+  pub columns-next : {y l : Line} {columns′ : List ℕ} {v : Sent} → i < n → LineIn columns i y → LineIn channel i l
+      → (v .count ≤ 130) × ((ys rs : List ℕ) → Packs (size d) ys y → Packs (size d) rs l → Packs (size d) (messages (bounded d) ys rs (getD w i 0)) (v .line) × (v .count ≡ countOf (bounded d) ys rs (getD w i 0)))
+      → LinePut columns i (v .line) columns′ → ColumnsAt d columns₀ channel w columns′ (count + v .count) (i + 1)
+  columns-next {y} {l} {columns′} {v} h f g q put = record {
+    low = omega arith;
+    small = omega (arith, k .small, q .0);
+    done = λ m r held channel.
+        let inside : i < size d = omega arith in
+        let t = k .done m r held channel in
+        let p : Packs (size d) (line (size d) m i) y = rw (half-line t inside) at (f (size d) _ (t .held) inside) in
+        let b = q .1 (line (size d) m i) (line (size d) r i) p (g (size d) r channel inside) in
+        again (half-next t inside {v = v} (b .0) (b .1) put);
+  }
 
-pub columns-end : {d : Degree} {m r w ones erased : List ℕ} {count i n : ℕ} → ColumnsAt d m r w ones erased count i → n ≡ size d → n ≤ i → RowsDone d m r w (rowHalf d m r w) ones erased count
-columns-end k e h = let q = half-end k e h in rw (← q .cells) q
+  pub columns-end : n ≤ i → (count ≤ 8320)
+      × ((m r : List ℕ) → Held (size d) m columns₀ → Held (size d) r channel → Held (size d) (rowHalf d m r w) columns × (count ≡ rowCount d m r w))
+  columns-end h =
+      let z : i ≡ size d = omega (arith, k .low) in
+      (omega (arith, k .small, size-room d), λ m r held channel. let t = half-end (k .done m r held channel) z in (t .held, t .sum))
 
 -- ---- the rows written, a row a turn
 
--- of the array m₀, held by packed rows, the first i rows hold the new ones
-pub record Writing (n : ℕ) (m₀ old₁ old₂ ones erased m : List ℕ) (i at : ℕ) : Type 0 where
+-- of the array m₀ the first i rows hold the new ones, where m₀ is held by the old packed rows
+pub record Writing (n : ℕ) (m₀ old rows m : List ℕ) (i at : ℕ) : Type 0 where
   pub low : i ≤ n
   pub place : at ≡ i * n
-  pub start : Held n m₀ old₁ old₂
-  pub long : length m ≡ n * n
-  pub rest : drop at m ≡ drop at m₀
-  pub done : (t : List ℕ) → Held n t ones erased → take at m ≡ take at t
+  pub start : length m₀ ≡ n * n
+  pub long : length m ≡ length m₀
+  pub done : (t : List ℕ) → Held n m₀ old → Held n t rows → m ≡ soFar n (line n t) m₀ i
 
-pub writing-start : {n n′ : ℕ} {m a b : List ℕ} (ones erased : List ℕ) → n ≡ n′ → Held n′ m a b → Writing n m a b ones erased m 0 0
-writing-start {n} {n′} {m} {a} {b} ones erased e k =
-    let h : Held n m a b = rw e k in
-    record { low = omega arith; place = sym (zero-mul n); start = h; long = h .array .long; rest = refl; done = λ t h. refl }
+pub writing-start : {n n′ : ℕ} (m old rows : List ℕ) → n ≡ n′ → length m ≡ n′ * n′ → Writing n m old rows m 0 0
+writing-start {n} m old rows e l = record { low = omega arith; place = sym (zero-mul n); start = rw e l; long = refl; done = λ t k q. far-start n (line n t) m }
 
-module _ {m₀ old₁ old₂ ones erased m : List ℕ} {i at n : ℕ} (k : Writing n m₀ old₁ old₂ ones erased m i at) where
+module _ {m₀ old rows m : List ℕ} {i at n : ℕ} (k : Writing n m₀ old rows m i at) where
+  square : length m ≡ n * n
+  square = k .long ∙ k .start
+
+  -- the row that is lent lies within
   pub writing-room : i < n → at + n ≤ length m
-  writing-room h =
-      let f : at ≡ i * n = k .place in
-      let q : i * n + n ≤ length m₀ = row-room n (k .start .array) i h in
-      omega (arith, k .long, k .start .array .long)
+  writing-room h = omega (arith, k .place, row-room n i m square h)
 
-  same : at + n - at ≡ n
-  same = omega arith
+  row-is : take (at + n - at) (drop at m) ≡ line n m i
+  row-is = line-lent n i at m (k .place)
 
-  row-is : take (at + n - at) (drop at m) ≡ line n m₀ i
-  row-is = rw (same, k .rest, k .place)
-
-  row-long : i < n → length (take (at + n - at) (drop at m)) ≡ n
-  row-long h = rw row-is (line-cells n n i (k .start .array) h .long)
-
-  -- the row that is lent is made of whole parts of eight cells
+  -- and is made of whole parts of eight cells
   pub writing-lent : (d : Degree) → n ≡ size d → i < n → length (take (at + n - at) (drop at m)) % 8 ≡ 0
-  writing-lent d e h = rw (row-long h, e) (size-eights d)
+  writing-lent d e h = rw (row-is, length-line n n m i h square, e) (size-eights d)
 
-  pub writing-next : {a b : Line} {y : List ℕ} → i < n → (a .ones ≡ getD old₁ i 0) × (a .erased ≡ getD old₂ i 0) → (b .ones ≡ getD ones i 0) × (b .erased ≡ getD erased i 0)
-      → Updated a b (take (at + n - at) (drop at m)) y → Writing n m₀ old₁ old₂ ones erased (putMid at (at + n - at) m y) (i + 1) (at + n)
-  writing-next {a} {b} {y} h f g u =
-      let p : at ≡ i * n = k .place in
-      let l : length (take (at + n - at) (drop at m)) ≡ n = row-long h in
-      let ly : length y ≡ n = u .long ∙ l in
-      let room : i * n + n ≤ length m = omega (arith, writing-room h) in
-      let was : Packs n (line n m₀ i) a = held-line i (k .start) h f in
-      record {
-        low = omega arith;
-        place = rw (add-one, suc-mul, ← p);
-        start = k .start;
-        long = rw (same, p) (put-length n i m y room ly ∙ k .long);
-        rest = rw (same, p) (put-drop n i m y room ly ∙ sym (drop-drop n (i * n) m) ∙ ap (drop n) (rw p at (k .rest)) ∙ drop-drop n (i * n) m₀);
-        done = λ t q.
-            let c : y ≡ line n t i = u .cells n (line n t i) (rw row-is was) (held-line i q h g) in
-            rw (same, p) (put-take n i m y room ly ∙ ap₂ (λ (x y : List ℕ). x ++ y) (rw p at (k .done t q)) c ∙ sym (take-add (i * n) n t));
-      }
+  pub writing-next : {a b : Line} {y : List ℕ} → i < n → LineIn old i a → LineIn rows i b → Updated a b (take (at + n - at) (drop at m)) y
+      → Writing n m₀ old rows (putMid at (at + n - at) m y) (i + 1) (at + n)
+  writing-next {a} {b} {y} h f g u = record {
+    low = omega arith;
+    place = next-place n i at m (k .place);
+    start = k .start;
+    long = same-len-mid at (at + n - at) m y (u .long) ∙ k .long;
+    done = λ t was new.
+        let even : Even n (line n t) i = λ j q. length-line n n t j (omega arith) (new .array .long) in
+        let still : take (at + n - at) (drop at m) ≡ line n m₀ i = row-is ∙ ap (λ (x : List ℕ). line n x i) (k .done t was new) ∙ far-line n (line n t) m₀ i even in
+        let c : y ≡ line n t i = u .cells n (line n t i) (rw still (f n m₀ was h)) (g n t new h) in
+        line-back n i at m (k .place) y ∙ rw (c, k .done t was new, add-one) (far-next n (line n t) m₀ i even);
+  }
 
-  pub writing-end : {n′ : ℕ} → n ≡ n′ → n ≤ i → (t : List ℕ) → Held n′ t ones erased → m ≡ t
-  writing-end {n′} e h t q′ =
-      let q : Held n t ones erased = rw e q′ in
+  pub writing-end : {n′ : ℕ} → n ≡ n′ → n ≤ i → (t : List ℕ) → Held n′ m₀ old → Held n′ t rows → m ≡ t
+  writing-end {n′} e h t was new =
       let z : i ≡ n = omega (arith, k .low) in
-      let p : at ≡ n * n = k .place ∙ rw z in
-      sym (take-all at m (omega (arith, k .long))) ∙ k .done t q ∙ take-all at t (omega (arith, q .array .long))
+      let p : Held n m₀ old = rw e was in
+      let q : Held n t rows = rw e new in
+      k .done t p q ∙ rw z (far-end n (line n t) m₀ n (p .array .long)) ∙ lines-are n (line n t) n t (q .array .long) (λ j g. refl)
 
 -- ---- the column half, from its parts
 
-pub columns-done : {d : Degree} {m r w after a b a′ b′ : List ℕ} {count : ℕ}
-    → RowsDone d (transpose (size d) (size d) m) (transpose (size d) (size d) r) w (rowHalf d (transpose (size d) (size d) m) (transpose (size d) (size d) r) w) a b count
-    → Turned a a′ → Turned b b′ → ((t : List ℕ) → Held (size d) t a′ b′ → after ≡ t) → ColumnsDone d m r w after a′ b′ count
+pub columns-done : (d : Degree) (w : List ℕ) {m rows channel columns sent rows′ after : List ℕ} {count : ℕ} → RowsTurned rows columns
+    → (count ≤ 8320) × ((m r : List ℕ) → Held (size d) m columns → Held (size d) r channel → Held (size d) (rowHalf d m r w) sent × (count ≡ rowCount d m r w))
+    → RowsTurned sent rows′ → ((t : List ℕ) → Held (size d) m rows → Held (size d) t rows′ → after ≡ t)
+    → (count ≤ 8320)
+    × ((r : List ℕ) → Held (size d) m rows → Held (size d) (transpose (size d) (size d) r) channel → StepDone (size d) (columnHalf d m r w) (columnCount d m r w) after rows′ count)
 unfolding columnHalf columnCount
-columns-done {d} {m} {r} {w} {after} {a} {b} {a′} {b′} {count} k p q e =
-    let h : Held (size d) (columnHalf d m r w) a′ b′ = held-turned (k .held) p q in
-    let f : after ≡ columnHalf d m r w = e (columnHalf d m r w) h in
-    record { cells = f; held = rw f h; sum = k .sum; small = k .small }
+columns-done d w {m} s q t e = (
+  q .0,
+  λ r held channel.
+      let h = q .1 _ _ (s (size d) m held) channel in
+      let k = t (size d) _ (h .0) in
+      record { cells = e _ held k; held = k; sum = h .1 },
+)

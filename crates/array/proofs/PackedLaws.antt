@@ -1,39 +1,33 @@
 -- Packed rows of an array: one line of it replaced, the array transposed, and its rows packed one after the other.
 -- Assumes nothing.
-use mathlib.Core.Path.{_≡_, refl, sym, ap, _∙_}
-use mathlib.Core.Bool.{Bool}
-use mathlib.Core.List.{List, [], _++_, append-assoc}
+use mathlib.Core.Path.{_≡_, refl, sym, ap, ap₂, _∙_}
+use mathlib.Core.Bool.{Bool, true, false}
+use mathlib.Core.List.{List, [], _∷_, _++_, append-assoc, append-nil}
 use mathlib.Core.Logic.{dite}
-use Prim.Native.Nat.{ℕ, _+_, _-_, _*_, _/_, _%_, _^_, _<_, _≤_}
-use native.Mathlib.Nat.{suc-mul, zero-mul, zero-div}
+use Prim.Native.Nat.{ℕ, suc, _+_, _-_, _*_, _%_, _<_, _≤_}
+use native.Mathlib.Nat.{suc-mul, zero-mul}
 use native.Mathlib.Numerals.{add-one}
 use native.Mathlib.Omega.{arith}
+use borrow.Rule.Slice.PartMut.{putMid}
 use native.Mathlib.Decide.{decLt, ℕ-discrete}
-use lib.Bits.{bitOr, or-add-and, and-le-l, and-comm}
 use lib.ListN.{length, take, drop, getD, set, length-append, length-take, length-drop, length-set, replicate, length-replicate, getD-replicate, List·getD-eq-default, drop-of-length-le}
-use lib.Seq.{length-take-le, drop-drop, drop-at, take-at, take-all, take-nil, take-take, take-add, drop-append-le, take-append-le, getD-set-same, getD-set-other}
+use lib.Seq.{length-take-le, drop-drop, drop-at, take-at, take-take, take-add, drop-append-le, take-append-le, getD-take, getD-set-same, getD-set-other}
 use Rattle.degree.specs.declared.Degree.{Degree}
 use Rattle.degree.specs.Degree.{size}
+use Rattle.laws.specs.Bits.{bit}
 use Rattle.line.specs.Cells.{IsLine, isOne, isErased}
 use Rattle.line.specs.Packed.{packBy, Packs}
 use Rattle.line.specs.declared.packed.Line.{Line}
 use Rattle.line.proofs.RowLaws.{size-room, size-eights}
-use Rattle.array.specs.Arrays.{line, transpose}
-use Rattle.array.specs.PackedRows.{Words}
 use Rattle.words.specs.Network.{Turned}
-use Rattle.array.specs.Steps.{IsArray, Held}
-use Rattle.array.proofs.ArrayLaws.{line-room, line-cells, transpose-cells, each-cell, line-at}
+use Rattle.words.proofs.ZeroLaws.{Zeros, zeros-turned}
+use Rattle.array.specs.Arrays.{line, withLine, lines}
+use Rattle.array.specs.PackedRows.{RowWords, Held, LineIn, LinePut, BlocksTurned, RowsTurned}
+use Rattle.array.specs.Steps.{IsArray}
+use Rattle.array.proofs.ArrayLaws.{Even, line-room, length-line, line-small, line-cells, transpose-cells, each-cell, line-at, length-lines, lines-are}
 use Rattle.array.proofs.WordLaws.{words-turned}
 
--- n cells of m from `at` on replaced by y: what comes back for a lent part
-abbrev pub put : (at n : ℕ) → List ℕ → List ℕ → List ℕ
-put at n m y = take at m ++ (y ++ drop n (drop at m))
-
 -- ---- lines of parts
-
--- past the end a line is empty
-line-none : (n k : ℕ) (m : List ℕ) → length m ≤ k * n → line n m k ≡ []
-line-none n k m h = ap (take n) (drop-of-length-le m {i = k * n} h) ∙ take-nil n
 
 -- a line below a cut is not touched by it
 line-take : (n k a : ℕ) (m : List ℕ) → k * n + n ≤ a → k * n ≤ length m → line n (take a m) k ≡ line n m k
@@ -54,23 +48,23 @@ module _ (n i : ℕ) (m y : List ℕ) (fits : i * n + n ≤ length m) (same : le
   head-length = rw (length-append, length-take-le at m (omega arith), same)
 
   -- what stands behind it stays
-  pub put-drop : drop (at + n) (put at n m y) ≡ drop (at + n) m
+  pub put-drop : drop (at + n) (withLine n m i y) ≡ drop (at + n) m
   put-drop = rw (← append-assoc) (drop-at (take at m ++ y) (drop n (drop at m)) (at + n) head-length ∙ drop-drop n at m)
 
   -- so does what stands before it
-  pub put-take : take (at + n) (put at n m y) ≡ take at m ++ y
+  pub put-take : take (at + n) (withLine n m i y) ≡ take at m ++ y
   put-take = rw (← append-assoc) (take-at (take at m ++ y) (drop n (drop at m)) (at + n) head-length)
 
-  pub put-length : length (put at n m y) ≡ length m
+  pub put-length : length (withLine n m i y) ≡ length m
   put-length = simp (length-append, length-drop, length-take-le at m (omega arith), same) (omega arith)
 
   -- line i is y
-  put-same : line n (put at n m y) i ≡ y
+  put-same : line n (withLine n m i y) i ≡ y
   put-same =
       ap (take n) (drop-at (take at m) (y ++ drop n (drop at m)) at (length-take-le at m (omega arith)))
       ∙ take-at y (drop n (drop at m)) n same
 
-  put-below : (k : ℕ) → k < i → line n (put at n m y) k ≡ line n m k
+  put-below : (k : ℕ) → k < i → line n (withLine n m i y) k ≡ line n m k
   put-below k h =
       let q : k * n + n ≤ at = line-room i n k h in
       let lt : length (take at m) ≡ at = length-take-le at m (omega arith) in
@@ -78,57 +72,59 @@ module _ (n i : ℕ) (m y : List ℕ) (fits : i * n + n ≤ length m) (same : le
       ∙ take-append-le n (drop (k * n) (take at m)) (y ++ drop n (drop at m)) (rw length-drop (omega arith))
       ∙ line-take n k at m q (omega arith)
 
-  put-above : (k : ℕ) → i < k → line n (put at n m y) k ≡ line n m k
+  put-above : (k : ℕ) → i < k → line n (withLine n m i y) k ≡ line n m k
   put-above k h =
       let q : at + n ≤ k * n = line-room k n i h in
       let e : at + n + (k * n - (at + n)) ≡ k * n = omega arith in
       ap (take n)
-      (ap (λ (x : ℕ). drop x (put at n m y)) (sym e) ∙ sym (drop-drop (k * n - (at + n)) (at + n) (put at n m y))
+      (ap (λ (x : ℕ). drop x (withLine n m i y)) (sym e) ∙ sym (drop-drop (k * n - (at + n)) (at + n) (withLine n m i y))
       ∙ ap (drop (k * n - (at + n))) put-drop ∙ drop-drop (k * n - (at + n)) (at + n) m ∙ ap (λ (x : ℕ). drop x m) e)
 
   -- the other lines stay
-  put-other : (k : ℕ) → (k ≡ i → ⊥) → line n (put at n m y) k ≡ line n m k
+  put-other : (k : ℕ) → (k ≡ i → ⊥) → line n (withLine n m i y) k ≡ line n m k
   put-other k ne = dite (decLt k i) (λ h. put-below k h) (λ h. put-above k (omega (arith, h, ne)))
 
 -- the cells stay below 3
-put-cells : (n i : ℕ) (m y : List ℕ) → IsLine (n * n) m → i < n → IsLine n y → IsLine (n * n) (put (i * n) n m y)
-put-cells n i m y a h b = record { long = long; small = each-cell (λ x. x < 3) n n (put (i * n) n m y) (omega arith) long cells }
+with-line-cells : (n i : ℕ) (m y : List ℕ) → IsLine (n * n) m → i < n → IsLine n y → IsLine (n * n) (withLine n m i y)
+with-line-cells n i m y a h b = record { long = long; small = each-cell (λ x. x < 3) n n (withLine n m i y) (omega arith) long cells }
   where
     room : i * n + n ≤ length m
     room = omega (arith, line-room n n i h, a .long)
 
-    long : length (put (i * n) n m y) ≡ n * n
+    long : length (withLine n m i y) ≡ n * n
     long = put-length n i m y room (b .long) ∙ a .long
 
-    cells : (k j : ℕ) → k < n → j < n → getD (put (i * n) n m y) (k * n + j) 0 < 3
+    cells : (k j : ℕ) → k < n → j < n → getD (withLine n m i y) (k * n + j) 0 < 3
     cells k j p q =
-        rw (← line-at n (put (i * n) n m y) k j q)
+        rw (← line-at n (withLine n m i y) k j q)
         (dite (ℕ-discrete k i)
         (λ e. rw (e, put-same n i m y room (b .long)) (b .small j))
         (λ e. rw (put-other n i m y room (b .long) k e) (line-cells n n k a p .small j)))
 
--- ---- words
+-- the first lines of an array replaced
+abbrev pub soFar : ℕ → (ℕ → List ℕ) → List ℕ → ℕ → List ℕ
+soFar n g m i = lines g i ++ drop (i * n) m
 
--- one word set where one line is another
-words-set : (p : ℕ → Bool) (n i v : ℕ) (m m′ a : List ℕ) → Words p n m a → i < 64 → v ≡ packBy p (line n m′ i)
-    → ((k : ℕ) → (k ≡ i → ⊥) → line n m′ k ≡ line n m k) → Words p n m′ (set a i v)
-words-set p n i v m m′ a w h e o = record {
-  long = length-set a i v ∙ w .long;
-  word = λ k. dite (ℕ-discrete k i)
-      (λ q. rw q (getD-set-same a i v 0 (omega (arith, w .long)) ∙ e))
-      (λ q. getD-set-other a i k v 0 q ∙ w .word k ∙ ap (packBy p) (sym (o k q)));
-}
+module _ (n : ℕ) (g : ℕ → List ℕ) (m : List ℕ) where
+  pub far-start : m ≡ soFar n g m 0
+  unfolding lines
+  far-start = sym (ap (λ (x : ℕ). drop x m) (zero-mul n))
 
--- words that are 0 pack nothing
-pub zeros : (p : ℕ → Bool) (n : ℕ) → Words p n [] (replicate 64 0)
-unfolding packBy
-zeros p n = record {
-  long = length-replicate {A = ℕ} 64 0;
-  word = λ i. zero-at i ∙ sym (ap (packBy p) (line-none n i [] (omega arith)));
-}
-  where
-    zero-at : (i : ℕ) → _≡_ {A = ℕ} (getD (replicate 64 0) i 0) 0
-    zero-at i = dite (decLt i 64) (λ h. getD-replicate 64 i 0 0 h) (λ h. List·getD-eq-default (replicate 64 0) 0 {n = i} (omega arith))
+  module _ (i : ℕ) (e : Even n g i) where
+    -- line i is still what it was
+    pub far-line : line n (soFar n g m i) i ≡ line n m i
+    far-line = ap (take n) (drop-at (lines g i) (drop (i * n) m) (i * n) (length-lines n g i e))
+
+    -- line i replaced too
+    pub far-next : withLine n (soFar n g m i) i (g i) ≡ soFar n g m (suc i)
+    unfolding lines
+    far-next =
+        let len = length-lines n g i e in
+        rw (take-at (lines g i) (drop (i * n) m) (i * n) len, drop-at (lines g i) (drop (i * n) m) (i * n) len, drop-drop n (i * n) m, suc-mul, append-assoc)
+
+  -- all k lines replaced
+  pub far-end : (k : ℕ) → length m ≡ k * n → soFar n g m k ≡ lines g k
+  far-end k l = ap (λ (x : List ℕ). lines g k ++ x) (drop-of-length-le m {i = k * n} (omega arith)) ∙ append-nil (lines g k)
 
 -- ---- an array and its packed rows
 
@@ -136,129 +132,180 @@ zeros p n = record {
 pub index-room : (d : Degree) {n i : ℕ} → n ≡ size d → i < n → i < 64
 index-room d e h = omega (arith, size-room d)
 
+-- line i of m is lent as the part from `at` to `at + n`, and comes back as y
+module _ (n i at : ℕ) (m : List ℕ) (e : at ≡ i * n) where
+  same : at + n - at ≡ n
+  same = omega arith
+
+  pub line-lent : take (at + n - at) (drop at m) ≡ line n m i
+  line-lent = rw (same, e)
+
+  pub line-back : (y : List ℕ) → putMid at (at + n - at) m y ≡ withLine n m i y
+  line-back y = rw (same, e)
+
+  -- the next line starts behind it
+  pub next-place : at + n ≡ (i + 1) * n
+  next-place = rw (add-one, suc-mul, ← e)
+
 -- row i lies within the array
-pub row-room : (n : ℕ) {m : List ℕ} → IsLine (n * n) m → (i : ℕ) → i < n → i * n + n ≤ length m
-row-room n {m} a i h = omega (arith, line-room n n i h, a .long)
+pub row-room : (n i : ℕ) (m : List ℕ) → length m ≡ n * n → i < n → i * n + n ≤ length m
+row-room n i m l h = omega (arith, line-room n n i h)
 
-module _ {n : ℕ} where
-  -- line i of the packed rows packs row i
-  pub held-line : {m ones erased : List ℕ} {l : Line} (i : ℕ) → Held n m ones erased → i < n → (l .ones ≡ getD ones i 0) × (l .erased ≡ getD erased i 0) → Packs n (line n m i) l
-  held-line i k h e =
-      record { room = k .room; cells = line-cells n n i (k .array) h; ones = e .0 ∙ k .one .word i; erased = e .1 ∙ k .two .word i }
+-- one word made another where one line is another
+words-put : (p : ℕ → Bool) (n i : ℕ) (m m′ : List ℕ) (before after : ℕ → ℕ) → RowWords p n m before → after i ≡ packBy p (line n m′ i)
+    → ((k : ℕ) → k < 64 → (k ≡ i → ⊥) → after k ≡ before k) → ((k : ℕ) → (k ≡ i → ⊥) → line n m′ k ≡ line n m k) → RowWords p n m′ after
+words-put p n i m m′ before after w e others same k h =
+    dite (ℕ-discrete k i) (λ q. rw q e) (λ q. others k h q ∙ w k h ∙ ap (packBy p) (sym (same k q)))
 
-  -- row i replaced, and its words with it
-  pub held-put : {m ones erased y : List ℕ} {l : Line} (i : ℕ) → Held n m ones erased → i < n → Packs n y l
-      → Held n (put (i * n) n m y) (set ones i (l .ones)) (set erased i (l .erased))
-  held-put {m} {ones} {erased} {y} {l} i k h p =
-      let room = row-room n (k .array) i h in
-      let few = k .room in
-      let long = p .cells .long in
-      record {
-        room = few;
-        array = put-cells n i m y (k .array) h (p .cells);
-        one = words-set isOne n i (l .ones) m (put (i * n) n m y) ones (k .one) (omega arith) (p .ones ∙ ap (packBy isOne) (sym (put-same n i m y room long))) (put-other n i m y room long);
-        two = words-set isErased n i (l .erased) m (put (i * n) n m y) erased (k .two) (omega arith) (p .erased ∙ ap (packBy isErased) (sym (put-same n i m y room long))) (put-other n i m y room long);
-      }
+-- the words of line i pack row i
+pub held-line : (rows : List ℕ) (i : ℕ) (l : Line) → l .ones ≡ getD rows i 0 → l .erased ≡ getD rows (64 + i) 0 → LineIn rows i l
+held-line rows i l e f n m k h =
+    let q : i < 64 = omega (arith, k .room) in
+    record { room = k .room; cells = line-cells n n i (k .array) h; ones = e ∙ k .ones i q; erased = f ∙ k .erased i q }
 
-  -- the words transposed hold the transposed array
-  pub held-turned : {m a b a′ b′ : List ℕ} → Held n m a b → Turned a a′ → Turned b b′ → Held n (transpose n n m) a′ b′
-  held-turned k s t = record {
-    room = k .room;
-    array = transpose-cells n n (k .array);
-    one = words-turned refl (k .room) (k .array .long) (k .one) s;
-    two = words-turned refl (k .room) (k .array .long) (k .two) t;
+-- the words of line i made those of l
+pub held-put : (rows : List ℕ) (i : ℕ) (l : Line) → i < 64 → LinePut rows i l (set (set rows i (l .ones)) (64 + i) (l .erased))
+held-put rows i l few n m y k h p = record {
+  room = k .room;
+  array = with-line-cells n i m y (k .array) h (p .cells);
+  long = length-set one (64 + i) (l .erased) ∙ length-set rows i (l .ones) ∙ k .long;
+  ones = words-put isOne n i m (withLine n m i y) (λ j. getD rows j 0) (λ j. getD both j 0) (k .ones)
+      (getD-set-other one (64 + i) i (l .erased) 0 (λ e. omega arith) ∙ getD-set-same rows i (l .ones) 0 (omega (arith, k .long)) ∙ p .ones ∙ ap (packBy isOne) here)
+      (λ j q ne. getD-set-other one (64 + i) j (l .erased) 0 (λ e. omega arith) ∙ getD-set-other rows i j (l .ones) 0 ne) elsewhere;
+  erased = words-put isErased n i m (withLine n m i y) (λ j. getD rows (64 + j) 0) (λ j. getD both (64 + j) 0) (k .erased)
+      (getD-set-same one (64 + i) (l .erased) 0 (omega (arith, k .long, length-set rows i (l .ones))) ∙ p .erased ∙ ap (packBy isErased) here)
+      (λ j q ne. getD-set-other one (64 + i) (64 + j) (l .erased) 0 (λ e. ne (omega arith)) ∙ getD-set-other rows i (64 + j) (l .ones) 0 (λ e. omega arith)) elsewhere;
+}
+  where
+    one : List ℕ
+    one = set rows i (l .ones)
+
+    both : List ℕ
+    both = set one (64 + i) (l .erased)
+
+    room : i * n + n ≤ length m
+    room = row-room n i m (k .array .long) h
+
+    here : y ≡ line n (withLine n m i y) i
+    here = sym (put-same n i m y room (p .cells .long))
+
+    elsewhere : (j : ℕ) → (j ≡ i → ⊥) → line n (withLine n m i y) j ≡ line n m j
+    elsewhere = put-other n i m y room (p .cells .long)
+
+-- both blocks of words transposed hold the transposed array
+pub held-turned : (rows after : List ℕ) → BlocksTurned rows after → RowsTurned rows after
+held-turned rows after t n m k = record {
+  room = k .room;
+  array = transpose-cells n n (k .array);
+  long = t .long;
+  ones = words-turned isOne n m (λ i. getD rows i 0) (λ i. getD after i 0) refl (k .room) (k .array .long) (k .ones)
+      (λ i h. rw (low after i h) at (t .first .small i)) (λ i j h q. rw (low after i h, low rows j q) at (t .first .bits i j h q));
+  erased = words-turned isErased n m (λ i. getD rows (64 + i) 0) (λ i. getD after (64 + i) 0) refl (k .room) (k .array .long) (k .erased)
+      (λ i h. rw (line-at 64 after 1 i h) at (t .second .small i)) (λ i j h q. rw (line-at 64 after 1 i h, line-at 64 rows 1 j q) at (t .second .bits i j h q));
+}
+  where
+    low : (words : List ℕ) (i : ℕ) → i < 64 → getD (line 64 words 0) i 0 ≡ getD words i 0
+    low words i h = getD-take 64 words i 0 h
+
+-- the first block transposed, and then the second, or not, where it is 0
+module _ (rows y : List ℕ) (long : length rows ≡ 128) (t : Turned (line 64 rows 0) y) where
+  abbrev half : List ℕ
+  half = withLine 64 rows 0 y
+
+  half-long : length half ≡ 128
+  half-long = put-length 64 0 rows y (omega arith) (t .long) ∙ long
+
+  other-stands : line 64 half 1 ≡ line 64 rows 1
+  other-stands = put-other 64 0 rows y (omega arith) (t .long) 1 (λ e. omega arith)
+
+  pub first-turned : Zeros (line 64 half 1) (length (line 64 half 1)) ≡ true → BlocksTurned rows half
+  first-turned z = record {
+    long = half-long;
+    first = rw (put-same 64 0 rows y (omega arith) (t .long)) t;
+    second = rw (← other-stands) (zeros-turned (line 64 half 1) (length-line 2 64 half 1 (omega arith) half-long) z);
   }
+
+  pub both-turned : (z : List ℕ) → Turned (line 64 half 1) z → BlocksTurned rows (withLine 64 half 1 z)
+  both-turned z s =
+      let room : 1 * 64 + 64 ≤ length half = omega (arith, half-long) in
+      record {
+        long = put-length 64 1 half z room (s .long) ∙ half-long;
+        first = rw (put-other 64 1 half z room (s .long) 0 (λ e. omega arith), put-same 64 0 rows y (omega arith) (t .long)) t;
+        second = rw (put-same 64 1 half z room (s .long), ← other-stands) s;
+      }
 
 -- ---- the rows packed, a row a turn
 
+-- an array of cells that are 0
+abbrev blank : ℕ → List ℕ
+blank n = replicate (n * n) 0
+
+zero-at : (k i : ℕ) → _≡_ {A = ℕ} (getD (replicate k 0) i 0) 0
+zero-at k i = dite (decLt i k) (λ h. getD-replicate k i 0 0 h) (λ h. List·getD-eq-default (replicate k 0) 0 {n = i} (omega (arith, length-replicate {A = ℕ} k 0)))
+
+packBy-none : (p : ℕ → Bool) → p 0 ≡ false → (xs : List ℕ) → ((i : ℕ) → getD xs i 0 ≡ 0) → packBy p xs ≡ 0
+unfolding packBy
+packBy-none p z [] h = refl
+packBy-none p z (x ∷ xs) h = ap₂ (λ (w : ℕ) (b : Bool). w * 2 + bit b) (packBy-none p z xs (λ i. h (suc i))) (ap p (h 0) ∙ z)
+
+-- words that are 0 hold it
+blank-held : (n : ℕ) → n ≤ 64 → Held n (blank n) (replicate 128 0)
+blank-held n few = record {
+  room = few;
+  array = record { long = length-replicate {A = ℕ} (n * n) 0; small = λ i. rw (zero-at (n * n) i) (omega arith) };
+  long = length-replicate {A = ℕ} 128 0;
+  ones = λ i h. zero-at 128 i ∙ sym (none isOne refl i);
+  erased = λ i h. zero-at 128 (64 + i) ∙ sym (none isErased refl i);
+}
+  where
+    none : (p : ℕ → Bool) → p 0 ≡ false → (i : ℕ) → packBy p (line n (blank n) i) ≡ 0
+    none p z i = packBy-none p z (line n (blank n) i) (λ j. omega (arith, line-small 1 n (blank n) i (λ q. rw (zero-at (n * n) q) (omega arith)) j))
+
 -- the first i rows are packed; the words after them are 0
-pub record Packing (n : ℕ) (m ones erased : List ℕ) (i at : ℕ) : Type 0 where
+pub record Packing (n : ℕ) (m rows : List ℕ) (i at : ℕ) : Type 0 where
   pub low : i ≤ n
   pub place : at ≡ i * n
-  pub one : Words isOne n (take at m) ones
-  pub two : Words isErased n (take at m) erased
+  pub held : Held n (soFar n (line n m) (blank n) i) rows
 
-pub packing-start : {n n′ : ℕ} (m : List ℕ) {ones erased : List ℕ} → n ≡ n′ → Words isOne n′ [] ones → Words isErased n′ [] erased → Packing n m ones erased 0 0
-packing-start {n} m e p q = record { low = omega arith; place = sym (zero-mul n); one = rw e p; two = rw e q }
+pub packing-start : (d : Degree) {n : ℕ} (m : List ℕ) {rows : List ℕ} → n ≡ size d → rows ≡ replicate 128 0 → Packing n m rows 0 0
+packing-start d {n} m e z = record {
+  low = omega arith;
+  place = sym (zero-mul n);
+  held = rw (z, ← far-start n (line n m) (blank n)) (blank-held n (omega (arith, size-room d)));
+}
 
--- a row more
-pack-word : (p : ℕ → Bool) (n i : ℕ) (m a : List ℕ) → i * n + n ≤ length m → i < 64 → Words p n (take (i * n) m) a → (v : ℕ) → v ≡ packBy p (line n m i) → Words p n (take (i * n + n) m) (set a i v)
-pack-word p n i m a room h w v e =
-    words-set p n i v (take (i * n) m) (take (i * n + n) m) a w h
-    (e ∙ ap (packBy p) (sym (line-take n i (i * n + n) m (omega arith) (omega arith))))
-    (λ k ne. dite (decLt k i)
-    (λ q. let r : k * n + n ≤ i * n = line-room i n k q in
-    line-take n k (i * n + n) m (omega arith) (omega arith) ∙ sym (line-take n k (i * n) m r (omega arith)))
-    (λ q. let r : i * n + n ≤ k * n = line-room k n i (omega (arith, q, ne)) in
-    line-none n k (take (i * n + n) m) (rw length-take (omega arith)) ∙ sym (line-none n k (take (i * n) m) (rw length-take (omega arith)))))
-
-module _ (d : Degree) {m ones erased : List ℕ} {i at n : ℕ} (a : IsArray d m) (k : Packing n m ones erased i at) (e : n ≡ size d) where
+module _ (d : Degree) {m rows : List ℕ} {i at n : ℕ} (a : IsArray d m) (k : Packing n m rows i at) (e : n ≡ size d) where
   array : IsLine (n * n) m
   array = rw e a
 
   -- the row that is lent lies within
   pub packing-room : i < n → at + n ≤ length m
-  packing-room h =
-      let f : at ≡ i * n = k .place in
-      let r : i * n + n ≤ length m = row-room n array i h in
-      omega arith
+  packing-room h = omega (arith, k .place, row-room n i m (array .long) h)
 
   -- and is line i
   lent : take (at + n - at) (drop at m) ≡ line n m i
-  lent =
-      let z : at + n - at ≡ n = omega arith in
-      rw (z, k .place)
+  lent = line-lent n i at m (k .place)
 
   pub packing-lent : i < n → (length (take (at + n - at) (drop at m)) ≤ 64) × (length (take (at + n - at) (drop at m)) % 8 ≡ 0) × ((j : ℕ) → getD (take (at + n - at) (drop at m)) j 0 < 3)
   packing-lent h =
       let l : IsLine n (line n m i) = line-cells n n i array h in
       rw lent (rw (l .long, e) (size-room d), rw (l .long, e) (size-eights d), l .small)
 
-  pub packing-next : {l : Line} {ones′ erased′ : List ℕ} → i < n → Packs (length (take (at + n - at) (drop at m))) (take (at + n - at) (drop at m)) l
-      → (ones′ ≡ set ones i (l .ones)) × (erased′ ≡ set erased i (l .erased)) → Packing n m ones′ erased′ (i + 1) (at + n)
-  packing-next {l} h p s =
-      let f : at ≡ i * n = k .place in
-      let r : i * n + n ≤ length m = row-room n array i h in
-      let q : i < 64 = index-room d e h in
-      let o : l .ones ≡ packBy isOne (line n m i) = rw lent at (p .ones) in
-      let u : l .erased ≡ packBy isErased (line n m i) = rw lent at (p .erased) in
+  even : (j : ℕ) → j < n → length (line n m j) ≡ n
+  even j h = line-cells n n j array h .long
+
+  pub packing-next : {l : Line} {rows′ : List ℕ} → i < n → Packs (length (take (at + n - at) (drop at m))) (take (at + n - at) (drop at m)) l
+      → LinePut rows i l rows′ → Packing n m rows′ (i + 1) (at + n)
+  packing-next {l} {rows′} h p put =
+      let q : Packs n (line n m i) l = rw (lent, even i h) at p in
       record {
         low = omega arith;
-        place = rw (add-one, suc-mul, ← f);
-        one = rw (s .0, f) (pack-word isOne n i m ones r q (rw f at (k .one)) (l .ones) o);
-        two = rw (s .1, f) (pack-word isErased n i m erased r q (rw f at (k .two)) (l .erased) u);
+        place = next-place n i at m (k .place);
+        held = rw (add-one, ← far-next n (line n m) (blank n) i (λ j g. even j (omega arith))) (put n _ (line n m i) (k .held) h q);
       }
 
-  pub packing-end : n ≤ i → Held (size d) m ones erased
+  pub packing-end : n ≤ i → Held (size d) m rows
   packing-end h =
       let z : i ≡ n = omega (arith, k .low) in
-      let f : take at m ≡ m = take-all at m (rw (k .place, z) (omega (arith, array .long))) in
-      record { room = size-room d; array = a; one = rw (f, e) at (k .one); two = rw (f, e) at (k .two) }
-
--- ---- words that are 0, transposed
-
-abbrev pub Blank : List ℕ → ℕ → Type 0
-Blank a i = (k : ℕ) → k < i → getD a k 0 ≡ 0
-
-none-set : (x y : ℕ) → bitOr x y ≡ 0 → (x ≡ 0) × (y ≡ 0)
-none-set x y e = let h = or-add-and x y in let k = and-le-l x y in let l = and-le-l y x in let c = and-comm x y in (omega arith, omega arith)
-
--- one word more is 0
-pub blank-next : (a : List ℕ) (i any : ℕ) → (any ≡ 0 → Blank a i) → bitOr any (getD a i 0) ≡ 0 → Blank a (i + 1)
-blank-next a i any h e k q =
-    let z = none-set any (getD a i 0) e in
-    dite (decLt k i) (λ p. h (z .0) k p) (λ p. let y : k ≡ i = omega (arith, p, q) in rw y (z .1))
-
--- they are their own transpose
-pub blank-turned : (a : List ℕ) → length a ≡ 64 → Blank a 64 → Turned a a
-blank-turned a l h = record {
-  long = l;
-  small = λ i. rw (zero-at i) (omega arith);
-  bits = λ i j p q. rw (h i p, h j q) (zero-bit j ∙ sym (zero-bit i));
-}
-  where
-    zero-at : (i : ℕ) → getD a i 0 ≡ 0
-    zero-at i = dite (decLt i 64) (λ q. h i q) (λ q. List·getD-eq-default a 0 {n = i} (omega arith))
-
-    zero-bit : (j : ℕ) → 0 / 2 ^ j % 2 ≡ 0
-    zero-bit j = ap (λ (x : ℕ). x % 2) (zero-div (2 ^ j))
+      let all : soFar n (line n m) (blank n) n ≡ m = far-end n (line n m) (blank n) n (length-replicate {A = ℕ} (n * n) 0) ∙ lines-are n (line n m) n m (array .long) (λ j g. refl) in
+      rw (z, all, e) at (k .held)

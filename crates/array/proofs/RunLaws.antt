@@ -1,6 +1,6 @@
 -- The iterations, one a turn.
 -- Assumes nothing.
-use mathlib.Core.Path.{_≡_, sym, ap, ap₂, _∙_}
+use mathlib.Core.Path.{_≡_, refl, sym, ap, ap₂, _∙_}
 use mathlib.Core.List.{List}
 use Prim.Native.Nat.{ℕ, suc, _+_, _-_, _*_, _<_, _≤_}
 use native.Mathlib.Nat.{suc-mul, zero-mul, sub-zero, zero-add, add-zero, add-assoc, mul-comm, mul-assoc, mul-le-mul-right, mul-le-mul}
@@ -11,37 +11,65 @@ use lib.Seq.{drop-drop, take-all}
 use Rattle.degree.specs.declared.Degree.{Degree}
 use Rattle.degree.specs.Degree.{size}
 use Rattle.line.proofs.RowLaws.{size-room}
+use Rattle.array.specs.Arrays.{transpose}
+use Rattle.array.specs.Halves.{rowHalf, columnHalf, rowCount, columnCount}
+use Rattle.array.specs.PackedRows.{Held}
 use Rattle.array.specs.Plain.{plain, plainCount}
-use Rattle.array.specs.Steps.{Held, RowsDone, ColumnsDone}
-use Rattle.array.specs.Runs.{IterationDone, RunDone}
+use Rattle.array.specs.Steps.{StepDone}
+use Rattle.array.specs.Runs.{Started}
 
 -- the rest of a slice from a place on, as a lent part gives it
-tail : (k : ℕ) (w : List ℕ) → take (length w - k) (drop k w) ≡ drop k w
+abbrev restFrom : ℕ → List ℕ → List ℕ
+restFrom k w = take (length w - k) (drop k w)
+
+tail : (k : ℕ) (w : List ℕ) → restFrom k w ≡ drop k w
 tail k w = take-all (length w - k) (drop k w) (rw length-drop (omega arith))
 
-pub tail-room : (k n : ℕ) (w : List ℕ) → k + n ≤ length w → n ≤ length (take (length w - k) (drop k w))
+pub tail-room : (k n : ℕ) (w : List ℕ) → k + n ≤ length w → n ≤ length (restFrom k w)
 tail-room k n w h = rw (tail k w, length-drop) (omega arith)
 
 -- an iteration, from its halves
-pub iteration-done : {d : Degree} {n : ℕ} {m r w s a b t a′ b′ : List ℕ} {k j : ℕ} → n ≡ size d → RowsDone d m r w s a b k
-    → ColumnsDone d s r (take (length w - n) (drop n w)) t a′ b′ j → IterationDone d m r w t a′ b′ (k + j)
-iteration-done {d} {n} {m} {r} {w} {s} {a} {b} {t} {a′} {b′} {k} {j} z p q =
-    let e = rw (tail n w, z, p .cells) at (q .cells) in
-    let f = rw (tail n w, z, p .cells) at (q .sum) in
-    record { cells = e; held = q .held; sum = ap₂ (λ (x y : ℕ). x + y) (p .sum) f; small = omega (arith, p .small, q .small) }
+pub iteration-done : (d : Degree) (w : List ℕ) {n : ℕ} {m rows across down s halfway t rows′ : List ℕ} {k j : ℕ} → n ≡ size d
+    → (k ≤ 8320) × ((r : List ℕ) → Held (size d) m rows → Held (size d) r across → StepDone (size d) (rowHalf d m r w) (rowCount d m r w) s halfway k)
+    → (j ≤ 8320) × ((r : List ℕ) → Held (size d) s halfway → Held (size d) (transpose (size d) (size d) r) down → StepDone (size d) (columnHalf d s r (restFrom n w)) (columnCount d s r (restFrom n w)) t rows′ j)
+    → (k + j ≤ 16640) × ((r : List ℕ) → Started (size d) m r rows across down → StepDone (size d) (plain d 1 m r w) (plainCount d 1 m r w) t rows′ (k + j))
+unfolding plain plainCount
+iteration-done d w {n} {m} {rows} {across} {down} {s} {halfway} {t} {rows′} {k} {j} z p q = (
+  omega (arith, p .0, q .0),
+  λ r g.
+      let a = p .1 r (g .held) (g .across) in
+      let b = q .1 r (rw (a .cells) (a .held)) (g .down) in
+      let e = rw (tail n w, z, a .cells) at (b .cells) in
+      let f = rw (tail n w, z, a .cells) at (b .sum) in
+      record {
+        cells = e;
+        held = rw (← e, b .cells) (b .held);
+        sum = ap₂ (λ (x y : ℕ). x + y) (a .sum) f ∙ sym (add-zero _);
+      },
+)
 
--- k of l iterations of m₀ are done: what is left of the plain decoding, from m on, ends with what all of it ends with
-pub record RunAt (d : Degree) (l : ℕ) (m₀ r w m ones erased : List ℕ) (count k at : ℕ) : Type 0 where
-  pub low : k ≤ l
-  pub place : at ≡ k * (size d + size d)
-  pub held : Held (size d) m ones erased
-  pub small : count ≤ 16384 * k
+-- what is left of the plain decoding of m₀, from m on, ends with what all of it ends with
+pub record RunLeft (d : Degree) (l : ℕ) (m₀ r w m rows : List ℕ) (count k at : ℕ) : Type 0 where
+  pub held : Held (size d) m rows
   pub cells : plain d (l - k) m r (drop at w) ≡ plain d l m₀ r w
   pub sum : count + plainCount d (l - k) m r (drop at w) ≡ plainCount d l m₀ r w
 
-pub run-start : {d : Degree} {m a b : List ℕ} (l : ℕ) (r w : List ℕ) → Held (size d) m a b → RunAt d l m r w m a b 0 0 0
-run-start {d} l r w h =
-    record { low = omega arith; place = sym (zero-mul (size d + size d)); held = h; small = omega arith; cells = rw sub-zero; sum = rw (sub-zero, zero-add) }
+-- k of l iterations of m₀ are done. The count is small whatever the words hold.
+pub record RunAt (d : Degree) (l : ℕ) (m₀ rows₀ across down w m rows : List ℕ) (count k at : ℕ) : Type 0 where
+  pub low : k ≤ l
+  pub place : at ≡ k * (size d + size d)
+  pub long : length m ≡ length m₀
+  pub small : count ≤ 16640 * k
+  pub done : (r : List ℕ) → Started (size d) m₀ r rows₀ across down → RunLeft d l m₀ r w m rows count k at
+
+pub run-start : (d : Degree) (l : ℕ) (m rows across down w : List ℕ) → RunAt d l m rows across down w m rows 0 0 0
+run-start d l m rows across down w = record {
+  low = omega arith;
+  place = sym (zero-mul (size d + size d));
+  long = refl;
+  small = omega arith;
+  done = λ r s. record { held = s .held; cells = rw sub-zero; sum = rw (sub-zero, zero-add) };
+}
 
 -- the filling words of one iteration, l times
 filling-length : (l n : ℕ) → 2 * l * n ≡ l * (n + n)
@@ -49,7 +77,7 @@ filling-length l n =
     let e : 2 * n ≡ n + n = omega arith in
     ap (λ (x : ℕ). x * n) (mul-comm 2 l) ∙ mul-assoc l 2 n ∙ ap (λ (x : ℕ). l * x) e
 
-module _ {d : Degree} {l : ℕ} {m₀ r w m a b : List ℕ} {count k at n : ℕ} (s : RunAt d l m₀ r w m a b count k at) (z : n ≡ size d) where
+module _ {d : Degree} {l : ℕ} {m₀ rows₀ across down w m rows : List ℕ} {count k at n : ℕ} (s : RunAt d l m₀ rows₀ across down w m rows count k at) (z : n ≡ size d) where
   -- the filling words of the iteration at hand are there, and few
   pub run-room : length w ≡ 2 * l * size d → k < l → l ≤ 20 → (at + (size d + size d) ≤ length w) × (at + (n + n) ≤ length w) × (at + (n + n) ≤ 2560)
   run-room e h q =
@@ -59,25 +87,33 @@ module _ {d : Degree} {l : ℕ} {m₀ r w m a b : List ℕ} {count k at n : ℕ}
       let i : at + n′ ≤ l * n′ = omega (arith, s .place, suc-mul k n′, mul-le-mul-right {m = suc k} {n = l} n′ h) in
       (omega arith, omega arith, omega arith)
 
-  pub run-next : {m′ a′ b′ : List ℕ} {j : ℕ} → k < l → IterationDone d m r (take (length w - at) (drop at w)) m′ a′ b′ j
-      → RunAt d l m₀ r w m′ a′ b′ (count + j) (k + 1) (at + (n + n))
+  pub run-next : {m′ rows′ : List ℕ} {j : ℕ} → k < l → length m′ ≡ length m
+      → (j ≤ 16640) × ((r : List ℕ) → Started (size d) m r rows across down → StepDone (size d) (plain d 1 m r (restFrom at w)) (plainCount d 1 m r (restFrom at w)) m′ rows′ j)
+      → RunAt d l m₀ rows₀ across down w m′ rows′ (count + j) (k + 1) (at + (n + n))
   unfolding plain plainCount
-  run-next {m′} {a′} {b′} {j} h p =
-      let e = rw (tail at w) at (p .cells) in
-      let f = rw (tail at w) at (p .sum) in
-      let left : l - k ≡ suc (l - (k + 1)) = omega arith in
-      record {
-        low = omega arith;
-        place = rw (z, add-one, suc-mul, ← s .place);
-        held = p .held;
-        small = omega (arith, s .small, p .small);
-        cells = rw (z, e, ← drop-drop (size d + size d) at w) (sym (ap (λ (x : ℕ). plain d x m r (drop at w)) left) ∙ s .cells);
-        sum = rw (z, e, f, ← drop-drop (size d + size d) at w, add-assoc) (sym (ap (λ (x : ℕ). count + plainCount d x m r (drop at w)) left) ∙ s .sum);
-      }
+  run-next {m′} {rows′} {j} h same p = record {
+    low = omega arith;
+    place = rw (z, add-one, suc-mul, ← s .place);
+    long = same ∙ s .long;
+    small = omega (arith, s .small, p .0);
+    done = λ r g.
+        let t = s .done r g in
+        let q = p .1 r (record { held = t .held; across = g .across; down = g .down }) in
+        let e = rw (tail at w) at (q .cells) in
+        let f = rw (tail at w, add-zero) at (q .sum) in
+        let left : l - k ≡ suc (l - (k + 1)) = omega arith in
+        record {
+          held = rw (q .cells) (q .held);
+          cells = rw (z, e, ← drop-drop (size d + size d) at w) (sym (ap (λ (x : ℕ). plain d x m r (drop at w)) left) ∙ t .cells);
+          sum = rw (z, e, f, ← drop-drop (size d + size d) at w, add-assoc) (sym (ap (λ (x : ℕ). count + plainCount d x m r (drop at w)) left) ∙ t .sum);
+        };
+  }
 
-pub run-end : {d : Degree} {l : ℕ} {m₀ r w m a b : List ℕ} {count k at : ℕ} → RunAt d l m₀ r w m a b count k at → l ≤ k → RunDone d l m₀ r w m a b count
-unfolding plain plainCount
-run-end {d} {l} {m₀} {r} {w} {m} {a} {b} {count} {k} {at} s h =
-    let z : l - k ≡ 0 = omega arith in
-    let t : count + plainCount d 0 m r (drop at w) ≡ plainCount d l m₀ r w = rw z at (s .sum) in
-    record { cells = rw z at (s .cells); held = s .held; sum = sym (add-zero count) ∙ t }
+  pub run-end : l ≤ k → (r : List ℕ) → Started (size d) m₀ r rows₀ across down → StepDone (size d) (plain d l m₀ r w) (plainCount d l m₀ r w) m rows count
+  unfolding plain plainCount
+  run-end h r g =
+      let t = s .done r g in
+      let y : l - k ≡ 0 = omega arith in
+      let e : m ≡ plain d l m₀ r w = rw y at (t .cells) in
+      let f : count + plainCount d 0 m r (drop at w) ≡ plainCount d l m₀ r w = rw y at (t .sum) in
+      record { cells = e; held = rw (← e) (t .held); sum = sym (add-zero count) ∙ f }

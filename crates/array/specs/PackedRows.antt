@@ -1,13 +1,41 @@
--- The lines of an array packed in 64 words, one a line, and words transposed.
+-- The rows of an array packed in 128 words. Only this file and the code's `packing` know how.
 use mathlib.Core.Path.{_≡_}
 use mathlib.Core.Bool.{Bool}
 use mathlib.Core.List.{List}
-use Prim.Native.Nat.{ℕ}
+use Prim.Native.Nat.{ℕ, _+_, _*_, _<_, _≤_}
 use lib.ListN.{length, getD}
-use Rattle.line.specs.Packed.{packBy}
-use Rattle.array.specs.Arrays.{line}
+use Rattle.line.specs.Cells.{IsLine, isOne, isErased}
+use Rattle.line.specs.Packed.{packBy, Packs}
+use Rattle.line.specs.declared.packed.Line.{Line}
+use Rattle.words.specs.Network.{Turned}
+use Rattle.array.specs.Arrays.{line, withLine, transpose}
 
--- 64 words, of which word i packs line i of m by p: past the last line a line is empty, and its word 0
-pub record Words (p : ℕ → Bool) (n : ℕ) (m a : List ℕ) : Type 0 where
-  pub long : length a ≡ 64
-  pub word : (i : ℕ) → getD a i 0 ≡ packBy p (line n m i)
+-- word i packs line i of m by p: past the last line a line is empty, and its word 0
+abbrev pub RowWords : (ℕ → Bool) → ℕ → List ℕ → (ℕ → ℕ) → Type 0
+RowWords p n m word = (i : ℕ) → i < 64 → word i ≡ packBy p (line n m i)
+
+-- an array of n by n cells, and its rows packed: word i has the ones of row i, word 64 + i its erasures
+pub record Held (n : ℕ) (m rows : List ℕ) : Type 0 where
+  pub room : n ≤ 64
+  pub array : IsLine (n * n) m
+  pub long : length rows ≡ 128
+  pub ones : RowWords isOne n m (λ i. getD rows i 0)
+  pub erased : RowWords isErased n m (λ i. getD rows (64 + i) 0)
+
+-- l is line i of packed rows
+abbrev pub LineIn : List ℕ → ℕ → Line → Type 0
+LineIn rows i l = (n : ℕ) (m : List ℕ) → Held n m rows → i < n → Packs n (line n m i) l
+
+-- packed rows whose line i was made l, and before
+abbrev pub LinePut : List ℕ → ℕ → Line → List ℕ → Type 0
+LinePut before i l after = (n : ℕ) (m y : List ℕ) → Held n m before → i < n → Packs n y l → Held n (withLine n m i y) after
+
+-- 128 words as two blocks of 64, and each transposed by itself
+pub record BlocksTurned (before after : List ℕ) : Type 0 where
+  pub long : length after ≡ 128
+  pub first : Turned (line 64 before 0) (line 64 after 0)
+  pub second : Turned (line 64 before 1) (line 64 after 1)
+
+-- packed rows transposed
+abbrev pub RowsTurned : List ℕ → List ℕ → Type 0
+RowsTurned before after = (n : ℕ) (m : List ℕ) → Held n m before → Held n (transpose n n m) after

@@ -1,32 +1,25 @@
--- What the steps of a decoding say, after those of a half. They serve the entry; its contract names none of these.
+-- What the iterations of a decoding start from, and what is told of their end. They serve the entry; its contract names none of
+-- these.
 use mathlib.Core.Path.{_≡_}
 use mathlib.Core.List.{List}
-use Prim.Native.Nat.{ℕ, _+_, _*_, _≤_}
-use lib.ListN.{drop}
+use Prim.Native.Nat.{ℕ, _*_}
 use Rattle.degree.specs.declared.Degree.{Degree}
 use Rattle.degree.specs.Degree.{size}
 use Rattle.line.specs.Cells.{IsWord, erasures as erasuresIn}
 use Rattle.array.specs.declared.report.Report.{Report}
-use Rattle.array.specs.Halves.{rowHalf, rowCount, columnHalf, columnCount}
-use Rattle.array.specs.Steps.{Held}
+use Rattle.array.specs.Arrays.{transpose}
+use Rattle.array.specs.PackedRows.{Held}
 use Rattle.array.specs.Plain.{plain, plainCount, closed as closedIn}
 
 -- n by n cells, which are 0 or 1
 abbrev pub IsFull : Degree → List ℕ → Type 0
 IsFull d m = IsWord (size d * size d) m
 
--- an iteration: a row half, then a column half with the filling words after those of the rows
-pub record IterationDone (d : Degree) (m r w after ones erased : List ℕ) (count : ℕ) : Type 0 where
-  pub cells : after ≡ columnHalf d (rowHalf d m r w) r (drop (size d) w)
-  pub held : Held (size d) after ones erased
-  pub sum : count ≡ rowCount d m r w + columnCount d (rowHalf d m r w) r (drop (size d) w)
-  pub small : count ≤ 16384
-
--- l iterations
-pub record RunDone (d : Degree) (l : ℕ) (m r w after ones erased : List ℕ) (count : ℕ) : Type 0 where
-  pub cells : after ≡ plain d l m r w
-  pub held : Held (size d) after ones erased
-  pub sum : count ≡ plainCount d l m r w
+-- what iterations start from: the array m at hand, and the received one r by rows and by columns, each by its packed rows
+pub record Started (n : ℕ) (m r rows rowChannel columnChannel : List ℕ) : Type 0 where
+  pub held : Held n m rows
+  pub across : Held n r rowChannel
+  pub down : Held n (transpose n n r) columnChannel
 
 -- what is told of an array: its unsure cells, and whether it is closed
 pub record Told (d : Degree) (m : List ℕ) (total : ℕ) (r : Report) : Type 0 where

@@ -1,13 +1,12 @@
 // The decoding of an array that was taken: in one way, from its start to its report.
-use crate::halves::transpose_erased;
 use crate::iterations::run;
 use crate::packing::pack_rows;
+use crate::packing::transpose_rows;
 use crate::report::Report;
 use crate::report::report_of;
 use degree::Degree;
 use line::tables::LineTables;
 use words::copying::copy_cells;
-use words::transpose::transpose_words;
 ghost use mathlib.Core.Path.{_≡_};
 ghost use Prim.Native.Nat.{_*_, _≤_};
 ghost use lib.ListN.{length};
@@ -29,28 +28,20 @@ pub fn decode_taken(
     ensures { λ r. ⌜ Decoded d iterations (now (received .entry)) (now (filling .entry)) (now (cells .exit)) r ⌝ }
 {
     copy_cells(received, cells);
-    let mut rowones = [0u64; 64];
-    let mut rowerased = [0u64; 64];
-    pack_rows(d, received, &mut rowones, &mut rowerased);
-    let mut colones = rowones;
-    let mut colerased = rowerased;
-    transpose_words(&mut colones);
-    transpose_erased(&mut colerased);
-    let mut ones = rowones;
-    let mut erased = rowerased;
+    let mut row_channel = [0u64; 128];
+    pack_rows(d, received, &mut row_channel);
+    let mut column_channel = row_channel;
+    transpose_rows(&mut column_channel);
+    let mut rows = row_channel;
     let count = run(
         d,
         iterations,
         cells,
-        received,
-        &rowones,
-        &rowerased,
-        &colones,
-        &colerased,
-        &mut ones,
-        &mut erased,
+        &row_channel,
+        &column_channel,
+        &mut rows,
         filling,
         tables,
     );
-    report_of(d, cells, count, &mut ones, &erased, tables)
+    report_of(d, count, &rows, tables)
 }

@@ -8,6 +8,12 @@ use line::encoding::unit_table;
 use line::packed::Line;
 use line::refusals::Call;
 use line::refusals::number_of;
+use line::word::Word;
+use line::word::bit_at;
+use line::word::of_number;
+use line::word::to_number;
+use line::word::xor_where;
+use line::word::zero_word;
 ghost use mathlib.Core.Path.{_≡_};
 ghost use Prim.Native.Nat.{_*_, _<_, _≤_};
 ghost use lib.ListN.{length};
@@ -16,6 +22,7 @@ ghost use Rattle.laws.specs.Digits.{digits};
 ghost use Rattle.line.specs.Cells.{IsWord};
 ghost use Rattle.line.specs.Encoding.{messageSize};
 ghost use Rattle.line.specs.Units.{Units};
+ghost use Rattle.line.specs.Word.{value};
 ghost use Rattle.array.specs.Arrays.{lines};
 ghost use Rattle.array.specs.Encoding.{encodeArray};
 ghost use Rattle.array.specs.EncodedRows.{EncodedRows, rowWord};
@@ -31,37 +38,36 @@ fn encode_rows(d: Degree, units: &UnitTable, message: &[u8], words: &mut [u64])
     let mut at = 0;
     while a < k {
         let end = at + k;
-        words[a] = encoded_word(d, units, &message[at..end]);
+        let word = encoded_word(d, units, &message[at..end]);
+        words[a] = to_number(word);
         at = end;
         a += 1;
     }
 }
 
 // Row i of the array: the sum of the k words whose unit has bit i.
-fn row_word(k: usize, units: &UnitTable, words: &[u64], i: usize) -> u64
+fn row_word(k: usize, units: &UnitTable, words: &[u64], i: u32) -> Word
     requires { ⌜ (k ≤ 64) × (length (now words) ≡ 64) × (i < 64) ⌝ }
-    ensures { λ r. ⌜ r ≡ rowWord (now (units .entry)) (now (words .entry)) k i ⌝ }
+    ensures { λ r. ⌜ value r ≡ rowWord (now (units .entry)) (now (words .entry)) k i ⌝ }
 {
-    let mut sum: u64 = 0;
+    let mut sum = zero_word();
     let mut a = 0;
     while a < k {
-        if (units[a] >> i) % 2 == 1 {
-            sum = sum ^ words[a];
-        }
+        let bit = bit_at(of_number(units[a]), i);
+        sum = xor_where(bit == 1, sum, of_number(words[a]));
         a += 1;
     }
     sum
 }
 
-// The bits of a word into the cells of a row.
-fn write_row(word: u64, row: &mut [u8])
-    ensures { λ _. ⌜ now (row .exit) ≡ digits (length (now (row .entry))) word ⌝ }
+// The cells of a word into a row.
+fn write_row(word: Word, row: &mut [u8])
+    requires { ⌜ length (now row) ≤ 64 ⌝ }
+    ensures { λ _. ⌜ now (row .exit) ≡ digits (length (now (row .entry))) (value word) ⌝ }
 {
-    let mut rest = word;
     let mut j = 0;
     while j < row.len() {
-        row[j] = (rest % 2) as u8;
-        rest = rest / 2;
+        row[j] = bit_at(word, j as u32) as u8;
         j += 1;
     }
 }
@@ -75,7 +81,7 @@ fn write_rows(n: usize, k: usize, units: &UnitTable, words: &[u64], cells: &mut 
     let mut at = 0;
     while i < n {
         let end = at + n;
-        let word = row_word(k, units, words, i);
+        let word = row_word(k, units, words, i as u32);
         write_row(word, &mut cells[at..end]);
         at = end;
         i += 1;

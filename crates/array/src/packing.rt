@@ -1,46 +1,71 @@
-// The rows of an array packed in words: the ones of row i in word i of one array, its erasures in word i of another.
+// The rows of an array packed in words. Only the look-up of a line, its writing and the transpose know where a line's words stand.
 use degree::Degree;
 use degree::size_of;
 use line::packed::Line;
+use line::packed::erased_of;
+use line::packed::ones_of;
 use line::packed::pack;
+use line::word::of_number;
+use line::word::to_number;
+use words::transpose::transpose_words;
+use words::zeros::all_zero;
 ghost use mathlib.Core.Path.{_≡_};
-ghost use mathlib.Core.List.{[]};
 ghost use Prim.Native.Nat.{_<_};
-ghost use lib.ListN.{getD, set};
+ghost use lib.ListN.{length, replicate};
 ghost use Rattle.degree.specs.Degree.{size};
-ghost use Rattle.line.specs.Cells.{isOne, isErased};
-ghost use Rattle.array.specs.PackedRows.{Words};
-ghost use Rattle.array.specs.Steps.{IsArray, Held};
+ghost use Rattle.array.specs.PackedRows.{Held, LineIn, LinePut, BlocksTurned, RowsTurned};
+ghost use Rattle.array.specs.Steps.{IsArray};
 
-// Line i of packed lines.
-pub fn line_in(ones: &[u64; 64], erased: &[u64; 64], i: usize) -> Line
+// Words 0 to 63 are the ones of the rows, words 64 to 127 their erasures.
+pub type PackedRows = [u64; 128];
+
+// Line i of packed rows.
+pub fn line_in(rows: &PackedRows, i: usize) -> Line
     requires { ⌜ i < 64 ⌝ }
-    ensures { λ r. ⌜ (r .ones ≡ getD (now (ones .entry)) i 0) × (r .erased ≡ getD (now (erased .entry)) i 0) ⌝ }
+    ensures { λ l. ⌜ LineIn (now (rows .entry)) i l ⌝ }
 {
-    Line::new(ones[i], erased[i])
+    Line::new(of_number(rows[i]), of_number(rows[64 + i]))
 }
 
-// Line i of packed lines made another.
-pub fn put_line(ones: &mut [u64; 64], erased: &mut [u64; 64], i: usize, l: Line)
+// Line i of packed rows made another.
+pub fn put_line(rows: &mut PackedRows, i: usize, l: Line)
     requires { ⌜ i < 64 ⌝ }
-    ensures { λ _. ⌜ (now (ones .exit) ≡ set (now (ones .entry)) i (l .ones)) × (now (erased .exit) ≡ set (now (erased .entry)) i (l .erased)) ⌝ }
+    ensures { λ _. ⌜ LinePut (now (rows .entry)) i l (now (rows .exit)) ⌝ }
 {
-    ones[i] = l.ones;
-    erased[i] = l.erased;
+    rows[i] = to_number(ones_of(l));
+    rows[64 + i] = to_number(erased_of(l));
+}
+
+// The words of the ones, and those of the erasures: where none is set, as after some halves no cell is unsure, nothing moves.
+fn transpose_blocks(rows: &mut [u64])
+    requires { ⌜ length (now rows) ≡ 128 ⌝ }
+    ensures { λ _. ⌜ BlocksTurned (now (rows .entry)) (now (rows .exit)) ⌝ }
+{
+    transpose_words(&mut rows[0..64]);
+    if !all_zero(&rows[64..128]) {
+        transpose_words(&mut rows[64..128])
+    }
+}
+
+// Packed rows become the packed columns.
+pub fn transpose_rows(rows: &mut PackedRows)
+    ensures { λ _. ⌜ RowsTurned (now (rows .entry)) (now (rows .exit)) ⌝ }
+{
+    transpose_blocks(rows)
 }
 
 // The rows of an array packed, into words that are 0.
-pub fn pack_rows(d: Degree, received: &[u8], ones: &mut [u64; 64], erased: &mut [u64; 64])
-    requires { ⌜ IsArray d (now received) × Words isOne (size d) [] (now ones) × Words isErased (size d) [] (now erased) ⌝ }
-    ensures { λ _. ⌜ Held (size d) (now (received .entry)) (now (ones .exit)) (now (erased .exit)) ⌝ }
+pub fn pack_rows(d: Degree, cells: &[u8], rows: &mut PackedRows)
+    requires { ⌜ IsArray d (now cells) × (now rows ≡ replicate 128 0) ⌝ }
+    ensures { λ _. ⌜ Held (size d) (now (cells .entry)) (now (rows .exit)) ⌝ }
 {
     let n = size_of(d);
     let mut i = 0;
     let mut at = 0;
     while i < n {
         let end = at + n;
-        let l = pack(&received[at..end]);
-        put_line(ones, erased, i, l);
+        let l = pack(&cells[at..end]);
+        put_line(rows, i, l);
         at = end;
         i += 1;
     }

@@ -1,22 +1,23 @@
 // What is told of the array that a decoding leaves.
+use crate::packing::PackedRows;
 use crate::packing::line_in;
+use crate::packing::transpose_rows;
 use degree::Degree;
 use degree::size_of;
 use line::codeword::is_codeword;
 use line::packed::count_erasures;
+use line::packed::ones_of;
 use line::tables::LineTables;
-use words::transpose::transpose_words;
 ghost use mathlib.Core.Path.{_≡_};
 ghost use mathlib.Core.List.{List};
 ghost use Prim.Native.Nat.{ℕ};
 ghost use Rattle.laws.specs.Tests.{every};
 ghost use Rattle.degree.specs.Degree.{size};
 ghost use Rattle.line.specs.Tables.{TablesOf};
-ghost use Rattle.line.specs.Cells.{isOne, erasures as erasuresIn};
+ghost use Rattle.line.specs.Cells.{erasures as erasuresIn};
 ghost use Rattle.line.specs.Codeword.{isCodeword};
 ghost use Rattle.array.specs.Arrays.{line};
-ghost use Rattle.array.specs.PackedRows.{Words};
-ghost use Rattle.array.specs.Steps.{Held};
+ghost use Rattle.array.specs.PackedRows.{Held};
 ghost use Rattle.array.specs.Runs.{IsFull, Told};
 
 // The count of decodings, the cells still unsure, and whether the array is closed.
@@ -26,14 +27,14 @@ pub struct Report {
     pub closed: bool,
 }
 
-fn count_erased(d: Degree, ones: &[u64; 64], erased: &[u64; 64]) -> u64
-    ensures { λ r. ⌜ ((m : List ℕ) → Held (size d) m (now (ones .entry)) (now (erased .entry)) → r ≡ erasuresIn m) ⌝ }
+fn count_erased(d: Degree, rows: &PackedRows) -> u64
+    ensures { λ r. ⌜ ((m : List ℕ) → Held (size d) m (now (rows .entry)) → r ≡ erasuresIn m) ⌝ }
 {
     let n = size_of(d);
     let mut sum: u64 = 0;
     let mut i = 0;
     while i < n {
-        let l = line_in(ones, erased, i);
+        let l = line_in(rows, i);
         sum += count_erasures(l) as u64;
         i += 1;
     }
@@ -41,15 +42,16 @@ fn count_erased(d: Degree, ones: &[u64; 64], erased: &[u64; 64]) -> u64
 }
 
 // Is every packed line a codeword?
-fn all_codewords(d: Degree, ones: &[u64; 64], tables: &LineTables) -> bool
+fn all_codewords(d: Degree, rows: &PackedRows, tables: &LineTables) -> bool
     requires { ⌜ TablesOf d (now tables) ⌝ }
-    ensures { λ r. ⌜ ((m : List ℕ) → IsFull d m → Words isOne (size d) m (now (ones .entry)) → r ≡ every (λ j. isCodeword d (line (size d) m j)) (size d)) ⌝ }
+    ensures { λ r. ⌜ ((m : List ℕ) → IsFull d m → Held (size d) m (now (rows .entry)) → r ≡ every (λ j. isCodeword d (line (size d) m j)) (size d)) ⌝ }
 {
     let n = size_of(d);
     let mut all = true;
     let mut i = 0;
     while i < n {
-        let one = is_codeword(d, ones[i], tables);
+        let l = line_in(rows, i);
+        let one = is_codeword(d, ones_of(l), tables);
         all = one & all;
         i += 1;
     }
@@ -57,21 +59,15 @@ fn all_codewords(d: Degree, ones: &[u64; 64], tables: &LineTables) -> bool
 }
 
 // Columns are looked at only where no cell is unsure: the words of their ones are then the columns.
-pub fn report_of(
-    d: Degree,
-    cells: &[u8],
-    total: u64,
-    ones: &mut [u64; 64],
-    erased: &[u64; 64],
-    tables: &LineTables,
-) -> Report
-    requires { ⌜ Held (size d) (now cells) (now ones) (now erased) × TablesOf d (now tables) ⌝ }
-    ensures { λ r. ⌜ Told d (now (cells .entry)) total r ⌝ }
+pub fn report_of(d: Degree, total: u64, rows: &PackedRows, tables: &LineTables) -> Report
+    requires { ⌜ TablesOf d (now tables) ⌝ }
+    ensures { λ r. ⌜ ((m : List ℕ) → Held (size d) m (now (rows .entry)) → Told d m total r) ⌝ }
 {
-    let left = count_erased(d, ones, erased);
+    let left = count_erased(d, rows);
     if left == 0 {
-        transpose_words(ones);
-        let all = all_codewords(d, ones, tables);
+        let mut columns = *rows;
+        transpose_rows(&mut columns);
+        let all = all_codewords(d, &columns, tables);
         Report {
             count: total,
             erasures: left,

@@ -2,3 +2,4 @@
 pub mod bytes; // eight bytes at a time, to a word and back
 pub mod copying; // one slice into another of its length
 pub mod transpose; // 64 words become the words of their columns
+pub mod zeros; // words that are 0

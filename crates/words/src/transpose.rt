@@ -23,7 +23,7 @@ fn exchange(x: u64, y: u64, j: usize, m: u64) -> Pair
 }
 
 // A block of 2 j rows from g on: each row of the upper half exchanges bits with the row j below.
-fn swap_block(a: &mut [u64; 64], g: usize, j: usize, m: u64)
+fn swap_block(a: &mut [u64], g: usize, j: usize, m: u64)
     requires { ⌜ (length (now a) ≡ 64) × (g + 2 * j ≤ 64) ⌝ }
     ensures { λ _. ⌜ Swapped j m g j (now (a .entry)) (now (a .exit)) ⌝ }
 {
@@ -39,7 +39,7 @@ fn swap_block(a: &mut [u64; 64], g: usize, j: usize, m: u64)
 }
 
 // The k blocks of 2 j rows.
-fn stage(a: &mut [u64; 64], k: usize, j: usize, m: u64)
+fn stage(a: &mut [u64], k: usize, j: usize, m: u64)
     requires { ⌜ (length (now a) ≡ 64) × (k * (2 * j) ≡ 64) × T (masked k j m) ⌝ }
     ensures { λ _. ⌜ Crossed k j (now (a .entry)) (now (a .exit)) ⌝ }
 {
@@ -53,7 +53,7 @@ fn stage(a: &mut [u64; 64], k: usize, j: usize, m: u64)
 }
 
 // 64 words, one a row, become the words of their columns.
-pub fn transpose_words(a: &mut [u64; 64])
+pub fn transpose_words(a: &mut [u64])
     requires { ⌜ length (now a) ≡ 64 ⌝ }
     ensures { λ _. ⌜ Turned (now (a .entry)) (now (a .exit)) ⌝ }
 {

@@ -7,42 +7,40 @@ use native.Mathlib.Omega.{arith}
 use lib.ListN.{length}
 use borrow.Author.Needs.{needs}
 use Rattle.array.proofs.PackedLaws.{index-room}
-use Rattle.array.proofs.HalfLaws.{HalfAt, half-start, half-room, half-lent, half-row, half-end}
+use Rattle.array.proofs.HalfLaws.{RowsAt, rows-start, rows-room, rows-lent, rows-next, rows-end}
 use Rattle.array.proofs.halves.row_half.Statement.{statement}
 use Rattle.array.proofs.halves.row_half.Tie as tie
 
 abbrev Inv-loop : tie.InvT-loop
-Inv-loop d cells₀ received rowones rowerased ones₀ erased₀ filling tables n count₀ i₀ at₀ cells ones erased count i at =
-    HalfAt d cells₀ received filling cells ones erased count i at
+Inv-loop d cells₀ channel rows₀ filling tables n count₀ i₀ at₀ cells rows count i at = RowsAt d cells₀ rows₀ channel filling cells rows count i at
 
 abbrev μ-loop : tie.MeasureT-loop
-μ-loop d cells₀ received rowones rowerased ones₀ erased₀ filling tables n count₀ i₀ at₀ cells ones erased count i at =
-    n - i
+μ-loop d cells₀ channel rows₀ filling tables n count₀ i₀ at₀ cells rows count i at = n - i
 
 -- the row at hand lies within the array
 room : (c : tie.In-loop Inv-loop μ-loop) → c .before .loop .at + c .before .before .size-of .result ≤ length (c .before .loop .cells)
-room c = half-room (c .before .loop .inv) (c .before .before .size-of .ensures) (c .loop-test .taken)
+room c = rows-room (c .before .loop .inv) (c .before .before .size-of .ensures) (c .loop-test .taken)
 
 next : tie.Need-loop-again Inv-loop μ-loop
 next c =
-    let far = c .before .before .before .before .before .before in
-    let loop = far .before .before .before .before .before .before .before .before in
-    half-row (loop .loop .inv) (loop .before .size-of .ensures) (far .before .before .before .before .before .before .before .loop-test .taken) (loop .before .before .before .before .before .pre .1) (far .before .before .before .before .line-in .ensures) (far .before .before .before .line-in2 .ensures) (far .send-row .ensures) (c .before .put-line .ensures)
+    let sent = c .before .before .before .before .before in
+    let loop = sent .before .before .before .before .before .before .before in
+    rows-next (loop .loop .inv) (loop .before .size-of .ensures) (sent .before .before .before .before .before .before .loop-test .taken) (sent .before .before .before .before .line-in .ensures) (sent .before .before .before .line-in2 .ensures) (sent .send-row .ensures) (c .before .put-line .ensures)
 
 size-of-requires : tie.Need-size-of-requires Inv-loop μ-loop
 size-of-requires c κs = search needs
 
 loop-holds : tie.Need-loop-holds Inv-loop μ-loop
-loop-holds c = half-start _ (c .before .before .before .before .pre .0) (c .before .before .before .before .pre .1 .array)
+loop-holds c = rows-start _ _ _ _ (c .before .before .before .pre .0)
 
 add-end : tie.Need-add-end Inv-loop μ-loop
 add-end c = omega (arith, room c)
 
 line-in-requires : tie.Need-line-in-requires Inv-loop μ-loop
-line-in-requires c κs = omega (arith, index-room (c .before .before .before .before .before .before .before .before .args .d) (c .before .before .before .before .size-of .ensures) (c .before .before .loop-test .taken))
+line-in-requires c κs = index-room (c .before .before .before .before .before .before .args .d) (c .before .before .before .size-of .ensures) (c .before .loop-test .taken)
 
 line-in-requires-2 : tie.Need-line-in-requires-2 Inv-loop μ-loop
-line-in-requires-2 c κs = omega (arith, index-room (c .before .before .before .before .before .before .before .before .before .args .d) (c .before .before .before .before .before .size-of .ensures) (c .before .before .before .loop-test .taken))
+line-in-requires-2 c κs = index-room (c .before .before .before .before .before .before .before .args .d) (c .before .before .before .before .size-of .ensures) (c .before .before .loop-test .taken)
 
 mul-f : tie.Need-mul-f Inv-loop μ-loop
 mul-f c = omega arith
@@ -57,22 +55,18 @@ part-send-row-start : tie.Need-part-send-row-start Inv-loop μ-loop
 part-send-row-start c = omega arith
 
 part-send-row-end : tie.Need-part-send-row-end Inv-loop μ-loop
-part-send-row-end c = omega (arith, room (c .before .before .before .before .before))
+part-send-row-end c = omega (arith, room (c .before .before .before .before))
 
 send-row-requires : tie.Need-send-row-requires Inv-loop μ-loop
 send-row-requires c κs =
-    let far = c .before .before .before .before .before .before .before in
-    (half-lent (far .loop .inv) (far .before .size-of .ensures) (c .before .before .before .before .before .before .loop-test .taken), far .before .before .before .before .before .pre .3)
+    let loop = c .before .before .before .before .before .before in
+    (rows-lent (loop .loop .inv) (loop .before .size-of .ensures) (c .before .before .before .before .before .loop-test .taken), loop .before .before .before .before .pre .2)
 
 put-line-requires : tie.Need-put-line-requires Inv-loop μ-loop
-put-line-requires c κs =
-    let far = c .before .before .before .before .before .before .before .before .before .before .before in
-    index-room (far .before .before .before .before .before .before .args .d) (far .before .before .size-of .ensures) (far .loop-test .taken)
+put-line-requires c κs = index-room (c .before .before .before .before .before .before .before .before .before .before .before .before .before .before .args .d) (c .before .before .before .before .before .before .before .before .before .before .before .size-of .ensures) (c .before .before .before .before .before .before .before .before .before .loop-test .taken)
 
 add-count : tie.Need-add-count Inv-loop μ-loop
-add-count c =
-    let far = c .before .before .before .before .before .before .before .before .before .before .before .before .before in
-    omega (arith, next c .small, index-room (far .before .before .before .before .before .before .args .d) (far .before .before .size-of .ensures) (far .loop-test .taken))
+add-count c = omega (arith, next c .small, index-room (c .before .before .before .before .before .before .before .before .before .before .before .before .before .before .before .before .args .d) (c .before .before .before .before .before .before .before .before .before .before .before .before .before .size-of .ensures) (c .before .before .before .before .before .before .before .before .before .before .before .loop-test .taken))
 
 add-i : tie.Need-add-i Inv-loop μ-loop
 add-i c = omega arith
@@ -84,10 +78,10 @@ loop-again : tie.Need-loop-again Inv-loop μ-loop
 loop-again c = next c
 
 same-length : tie.Need-same-length Inv-loop μ-loop
-same-length c = c .before .loop .inv .held .array .long ∙ sym (c .before .before .before .before .before .before .pre .0 .array .long)
+same-length c = c .before .loop .inv .long ∙ sym (c .before .before .before .before .before .pre .0)
 
 returns : tie.Need-returns Inv-loop μ-loop
-returns c = half-end (c .before .loop .inv) (c .before .before .size-of .ensures) (c .loop-test .left)
+returns c = rows-end (c .before .loop .inv) (c .before .before .size-of .ensures) (c .loop-test .left)
 
 pub row-half-spec : {M : Type 1} → statement M
 row-half-spec =

@@ -4,41 +4,34 @@
 use Prim.Native.Nat.{_-_}
 use native.Mathlib.Omega.{arith}
 use borrow.Author.Needs.{needs}
-use Rattle.degree.specs.Degree.{size}
-use Rattle.array.specs.Arrays.{transpose}
 use Rattle.array.proofs.PackedLaws.{index-room}
 use Rattle.array.proofs.HalfLaws.{ColumnsAt, columns-start, columns-next, columns-end}
 use Rattle.array.proofs.halves.send_columns.Statement.{statement}
 use Rattle.array.proofs.halves.send_columns.Tie as tie
 
 abbrev Inv-loop : tie.InvT-loop
-Inv-loop d cells received colones colerased ones₀ erased₀ filling tables n count₀ j₀ ones erased count j =
-    ColumnsAt d (transpose (size d) (size d) cells) (transpose (size d) (size d) received) filling ones erased count j
+Inv-loop d channel columns₀ filling tables n count₀ j₀ columns count j = ColumnsAt d columns₀ channel filling columns count j
 
 abbrev μ-loop : tie.MeasureT-loop
-μ-loop d cells received colones colerased ones₀ erased₀ filling tables n count₀ j₀ ones erased count j =
-    n - j
+μ-loop d channel columns₀ filling tables n count₀ j₀ columns count j = n - j
 
 next : tie.Need-loop-again Inv-loop μ-loop
 next c =
-    let far = c .before .before .before .before in
-    columns-next (far .before .before .before .before .before .before .before .loop .inv) (far .before .before .before .before .before .before .before .before .before .before .before .before .pre .1) (far .before .before .before .before .before .before .before .before .size-of .ensures) (far .before .before .before .before .before .before .loop-test .taken) (far .before .before .before .line-in .ensures) (far .before .before .line-in2 .ensures) (far .messages-of .ensures) (c .before .put-line .ensures)
+    let sent = c .before .before .before in
+    let loop = sent .before .before .before .before .before .before in
+    columns-next (loop .loop .inv) (loop .before .size-of .ensures) (sent .before .before .before .before .before .loop-test .taken) (sent .before .before .before .line-in .ensures) (sent .before .before .line-in2 .ensures) (sent .messages-of .ensures) (c .before .put-line .ensures)
 
 size-of-requires : tie.Need-size-of-requires Inv-loop μ-loop
 size-of-requires c κs = search needs
 
 loop-holds : tie.Need-loop-holds Inv-loop μ-loop
-loop-holds c = columns-start _ (c .before .before .before .before .pre .0) (c .before .before .before .before .pre .1 .array)
+loop-holds c = columns-start _ _ _
 
 line-in-requires : tie.Need-line-in-requires Inv-loop μ-loop
-line-in-requires c κs =
-    let far = c .before .before .before .before in
-    index-room (far .before .before .before .before .args .d) (far .size-of .ensures) (c .before .before .loop-test .taken)
+line-in-requires c κs = index-room (c .before .before .before .before .before .args .d) (c .before .before .before .size-of .ensures) (c .before .loop-test .taken)
 
 line-in-requires-2 : tie.Need-line-in-requires-2 Inv-loop μ-loop
-line-in-requires-2 c κs =
-    let far = c .before .before .before .before .before in
-    index-room (far .before .before .before .before .args .d) (far .size-of .ensures) (c .before .before .before .loop-test .taken)
+line-in-requires-2 c κs = index-room (c .before .before .before .before .before .before .args .d) (c .before .before .before .before .size-of .ensures) (c .before .before .loop-test .taken)
 
 mul-f : tie.Need-mul-f Inv-loop μ-loop
 mul-f c = omega arith
@@ -47,17 +40,13 @@ shared-slice-read-f : tie.Need-shared-slice-read-f Inv-loop μ-loop
 shared-slice-read-f c = omega arith
 
 messages-of-requires : tie.Need-messages-of-requires Inv-loop μ-loop
-messages-of-requires c κs = c .before .before .before .before .before .before .before .before .before .before .before .pre .3
+messages-of-requires c κs = c .before .before .before .before .before .before .before .before .pre .1
 
 put-line-requires : tie.Need-put-line-requires Inv-loop μ-loop
-put-line-requires c κs =
-    let far = c .before .before .before .before .before .before .before .before in
-    index-room (far .before .before .before .before .before .before .args .d) (far .before .before .size-of .ensures) (far .loop-test .taken)
+put-line-requires c κs = index-room (c .before .before .before .before .before .before .before .before .before .before .args .d) (c .before .before .before .before .before .before .before .before .size-of .ensures) (c .before .before .before .before .before .before .loop-test .taken)
 
 add-count : tie.Need-add-count Inv-loop μ-loop
-add-count c =
-    let far = c .before .before .before .before .before .before .before .before .before .before in
-    omega (arith, next c .small, index-room (far .before .before .before .before .before .before .args .d) (far .before .before .size-of .ensures) (far .loop-test .taken))
+add-count c = omega (arith, next c .small, index-room (c .before .before .before .before .before .before .before .before .before .before .before .before .args .d) (c .before .before .before .before .before .before .before .before .before .before .size-of .ensures) (c .before .before .before .before .before .before .before .before .loop-test .taken))
 
 add-j : tie.Need-add-j Inv-loop μ-loop
 add-j c = omega arith

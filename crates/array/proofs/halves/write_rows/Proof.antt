@@ -2,7 +2,6 @@
 -- The measure is the rows left.
 -- Assumes nothing.
 use Prim.Native.Nat.{_+_, _-_, _≤_}
-use mathlib.Core.Path.{sym, _∙_}
 use native.Mathlib.Omega.{arith}
 use lib.ListN.{length}
 use borrow.Author.Needs.{needs}
@@ -12,10 +11,10 @@ use Rattle.array.proofs.halves.write_rows.Statement.{statement}
 use Rattle.array.proofs.halves.write_rows.Tie as tie
 
 abbrev Inv-loop : tie.InvT-loop
-Inv-loop cells₀ oldones olderased ones erased n i₀ at₀ cells i at = Writing n cells₀ oldones olderased ones erased cells i at
+Inv-loop cells₀ old rows n i₀ at₀ cells i at = Writing n cells₀ old rows cells i at
 
 abbrev μ-loop : tie.MeasureT-loop
-μ-loop cells₀ oldones olderased ones erased n i₀ at₀ cells i at = n - i
+μ-loop cells₀ old rows n i₀ at₀ cells i at = n - i
 
 -- the row at hand lies within the array
 room : (c : tie.In-loop Inv-loop μ-loop) → c .before .loop .at + c .before .before .size-of .result ≤ length (c .before .loop .cells)
@@ -25,7 +24,7 @@ size-of-requires : tie.Need-size-of-requires Inv-loop μ-loop
 size-of-requires c κs = search needs
 
 loop-holds : tie.Need-loop-holds Inv-loop μ-loop
-loop-holds c = writing-start _ _ (c .size-of .ensures) (c .before .before .pre)
+loop-holds c = writing-start _ _ _ (c .size-of .ensures) (c .before .before .pre)
 
 add-end : tie.Need-add-end Inv-loop μ-loop
 add-end c = omega (arith, room c)
@@ -62,7 +61,7 @@ loop-again c =
     writing-next (far .before .before .before .loop .inv) (far .before .before .loop-test .taken) (far .before .line-in .ensures) (far .line-in2 .ensures) (c .before .before .update-row .ensures)
 
 same-length : tie.Need-same-length Inv-loop μ-loop
-same-length c = c .before .loop .inv .long ∙ sym (c .before .loop .inv .start .array .long)
+same-length c = c .before .loop .inv .long
 
 returns : tie.Need-returns Inv-loop μ-loop
 returns c = writing-end (c .before .loop .inv) (c .before .before .size-of .ensures) (c .loop-test .left)

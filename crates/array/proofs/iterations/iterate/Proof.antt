@@ -1,7 +1,7 @@
 -- `iterations::iterate` meets its contract, from what its two halves ensure.
 -- Assumes nothing.
-use Rattle.array.proofs.RunLaws.{tail-room, iteration-done}
 use borrow.Author.Needs.{needs}
+use Rattle.array.proofs.RunLaws.{tail-room, iteration-done}
 use Rattle.array.proofs.iterations.iterate.Statement.{statement}
 use Rattle.array.proofs.iterations.iterate.Tie as tie
 
@@ -25,9 +25,8 @@ part-column-half-end c = search needs
 
 column-half-requires : tie.Need-column-half-requires
 column-half-requires c κs =
-    let far = c .before .before .before .before .before .before in
-    let p = far .before .before .before .before .before .before .before .before .pre in
-    (far .row-half .ensures .held, p .2, tail-room _ _ (far .before .before .before .before .before .before .before .before .args .filling .now) (search needs), p .4)
+    let start = c .before .before .before .before .before .before .before .before .before .before .before in
+    (search needs, tail-room _ _ (start .args .filling .now) (search needs), start .pre .2)
 
 add-result : tie.Need-add-result
 add-result c = search needs
@@ -37,8 +36,9 @@ same-length c = search needs
 
 returns : tie.Need-returns
 returns c =
-    let far = c .before .before .before .before .before .before .before .before .before in
-    iteration-done (far .before .before .before .before .size-of .ensures) (far .row-half .ensures) (c .before .before .column-half .ensures)
+    let half = c .before .before .before .before .before .before .before .before in
+    let args = half .before .before .before .before .before .before .args in
+    iteration-done (args .d) (args .filling .now) (half .before .before .before .size-of .ensures) (half .row-half .ensures) (c .before .before .column-half .ensures)
 
 pub iterate-spec : {M : Type 1} → statement M
 iterate-spec =

@@ -9,20 +9,20 @@ use Rattle.array.proofs.packing.pack_rows.Statement.{statement}
 use Rattle.array.proofs.packing.pack_rows.Tie as tie
 
 abbrev Inv-loop : tie.InvT-loop
-Inv-loop received ones₀ erased₀ n i₀ at₀ ones erased i at = Packing n received ones erased i at
+Inv-loop cells rows₀ n i₀ at₀ rows i at = Packing n cells rows i at
 
 abbrev μ-loop : tie.MeasureT-loop
-μ-loop received ones₀ erased₀ n i₀ at₀ ones erased i at = n - i
+μ-loop cells rows₀ n i₀ at₀ rows i at = n - i
 
 -- the row at hand lies within the array
-room : (c : tie.In-loop Inv-loop μ-loop) → c .before .loop .at + c .before .before .size-of .result ≤ length (c .before .before .before .before .args .received .now)
+room : (c : tie.In-loop Inv-loop μ-loop) → c .before .loop .at + c .before .before .size-of .result ≤ length (c .before .before .before .before .args .cells .now)
 room c = packing-room (c .before .before .before .before .args .d) (c .before .before .before .before .pre .0) (c .before .loop .inv) (c .before .before .size-of .ensures) (c .loop-test .taken)
 
 size-of-requires : tie.Need-size-of-requires Inv-loop μ-loop
 size-of-requires c κs = search needs
 
 loop-holds : tie.Need-loop-holds Inv-loop μ-loop
-loop-holds c = packing-start _ (c .size-of .ensures) (c .before .before .pre .1) (c .before .before .pre .2)
+loop-holds c = packing-start (c .before .before .args .d) _ (c .size-of .ensures) (c .before .before .pre .1)
 
 add-end : tie.Need-add-end Inv-loop μ-loop
 add-end c = omega (arith, room c)
@@ -41,7 +41,7 @@ pack-requires c κs = packing-lent (c .before .before .before .before .before .a
 
 put-line-requires : tie.Need-put-line-requires Inv-loop μ-loop
 put-line-requires c κs =
-    let far = c .before .before .before .before in
+    let far = c .before .before .before in
     index-room (far .before .before .before .before .args .d) (far .before .before .size-of .ensures) (far .loop-test .taken)
 
 add-i : tie.Need-add-i Inv-loop μ-loop
@@ -52,8 +52,8 @@ loop-less c = omega arith
 
 loop-again : tie.Need-loop-again Inv-loop μ-loop
 loop-again c =
-    let far = c .before .before .before .before .before in
-    packing-next (far .before .before .before .before .args .d) (far .before .before .before .before .pre .0) (far .before .loop .inv) (far .before .before .size-of .ensures) (far .loop-test .taken) (c .before .before .before .pack .ensures) (c .put-line .ensures)
+    let far = c .before .before .before .before in
+    packing-next (far .before .before .before .before .args .d) (far .before .before .before .before .pre .0) (far .before .loop .inv) (far .before .before .size-of .ensures) (far .loop-test .taken) (c .before .before .pack .ensures) (c .put-line .ensures)
 
 returns : tie.Need-returns Inv-loop μ-loop
 returns c = packing-end (c .before .before .before .before .args .d) (c .before .before .before .before .pre .0) (c .before .loop .inv) (c .before .before .size-of .ensures) (c .loop-test .left)

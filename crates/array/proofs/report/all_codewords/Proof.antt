@@ -10,14 +10,10 @@ use Rattle.array.proofs.report.all_codewords.Statement.{statement}
 use Rattle.array.proofs.report.all_codewords.Tie as tie
 
 abbrev Inv-loop : tie.InvT-loop
-Inv-loop d ones tables n all₀ i₀ all i = Testing d ones all i
+Inv-loop d rows tables n all₀ i₀ all i = Testing d rows all i
 
 abbrev μ-loop : tie.MeasureT-loop
-μ-loop d ones tables n all₀ i₀ all i = n - i
-
--- there is a word for the line at hand
-few : tie.Need-element-copy-out-is-codeword Inv-loop μ-loop
-few c = index-room (c .before .before .before .args .d) (c .before .before .size-of .ensures) (c .loop-test .taken)
+μ-loop d rows tables n all₀ i₀ all i = n - i
 
 size-of-requires : tie.Need-size-of-requires Inv-loop μ-loop
 size-of-requires c κs = search needs
@@ -25,14 +21,14 @@ size-of-requires c κs = search needs
 loop-holds : tie.Need-loop-holds Inv-loop μ-loop
 loop-holds c = testing-start _ _
 
-mul-is-codeword : tie.Need-mul-is-codeword Inv-loop μ-loop
-mul-is-codeword c = omega (arith, few c)
+line-in-requires : tie.Need-line-in-requires Inv-loop μ-loop
+line-in-requires c κs = index-room (c .before .before .before .args .d) (c .before .before .size-of .ensures) (c .loop-test .taken)
 
-element-copy-out-is-codeword : tie.Need-element-copy-out-is-codeword Inv-loop μ-loop
-element-copy-out-is-codeword c = few c
+ones-of-requires : tie.Need-ones-of-requires Inv-loop μ-loop
+ones-of-requires c κs = search needs
 
 is-codeword-requires : tie.Need-is-codeword-requires Inv-loop μ-loop
-is-codeword-requires c κs = c .before .before .before .before .pre
+is-codeword-requires c κs = c .before .before .before .before .before .pre
 
 add-i : tie.Need-add-i Inv-loop μ-loop
 add-i c = omega arith
@@ -41,7 +37,9 @@ loop-less : tie.Need-loop-less Inv-loop μ-loop
 loop-less c = omega arith
 
 loop-again : tie.Need-loop-again Inv-loop μ-loop
-loop-again c = testing-next (c .before .before .before .loop .inv) (c .before .before .before .before .size-of .ensures) (c .before .before .loop-test .taken) (c .is-codeword .ensures)
+loop-again c =
+    let turn = c .before .before .before in
+    testing-next (turn .before .loop .inv) (turn .before .before .size-of .ensures) (turn .loop-test .taken) (c .before .before .line-in .ensures) (c .before .ones-of .ensures) (c .is-codeword .ensures)
 
 returns : tie.Need-returns Inv-loop μ-loop
 returns c = testing-end (c .before .loop .inv) (c .before .before .size-of .ensures) (c .loop-test .left)
@@ -54,8 +52,8 @@ all-codewords-spec =
     μ-loop
     size-of-requires
     loop-holds
-    mul-is-codeword
-    element-copy-out-is-codeword
+    line-in-requires
+    ones-of-requires
     is-codeword-requires
     add-i
     loop-less

@@ -10,10 +10,10 @@ use Rattle.array.proofs.report.count_erased.Statement.{statement}
 use Rattle.array.proofs.report.count_erased.Tie as tie
 
 abbrev Inv-loop : tie.InvT-loop
-Inv-loop ones erased n sum₀ i₀ sum i = Counting n ones erased sum i
+Inv-loop rows n sum₀ i₀ sum i = Counting n rows sum i
 
 abbrev μ-loop : tie.MeasureT-loop
-μ-loop ones erased n sum₀ i₀ sum i = n - i
+μ-loop rows n sum₀ i₀ sum i = n - i
 
 next : tie.Need-loop-again Inv-loop μ-loop
 next c = counting-next (c .before .before .before .loop .inv) (c .before .before .loop-test .taken) (c .before .line-in .ensures) (c .count-erasures .ensures)
@@ -22,7 +22,7 @@ size-of-requires : tie.Need-size-of-requires Inv-loop μ-loop
 size-of-requires c κs = search needs
 
 loop-holds : tie.Need-loop-holds Inv-loop μ-loop
-loop-holds c = counting-start _ _ _
+loop-holds c = counting-start _ _
 
 line-in-requires : tie.Need-line-in-requires Inv-loop μ-loop
 line-in-requires c κs = index-room (c .before .before .before .args .d) (c .before .before .size-of .ensures) (c .loop-test .taken)

@@ -2,8 +2,9 @@
 -- what is left of the j pairs.
 -- Assumes nothing.
 use Prim.Native.Nat.{_-_}
-use mathlib.Core.Path.{_≡_}
+use mathlib.Core.Path.{_≡_, sym, _∙_}
 use native.Mathlib.Omega.{arith}
+use lib.ListN.{length-set}
 use Rattle.words.specs.Network.{Swapped}
 use Rattle.words.proofs.SwapLaws.{swapped-none, swapped-next}
 use Rattle.words.proofs.transpose.swap_block.Statement.{statement}
@@ -16,7 +17,7 @@ abbrev μ-loop : tie.MeasureT-loop
 μ-loop a₀ g j m i₀ a i = j - i
 
 loop-holds : tie.Need-loop-holds Inv-loop μ-loop
-loop-holds c = swapped-none _ _ _ _ (c .pre .0)
+loop-holds c = swapped-none _ _ _ _ (c .before .pre .0)
 
 add-h : tie.Need-add-h Inv-loop μ-loop
 add-h c = omega arith
@@ -30,14 +31,14 @@ add-l-2 c = omega arith
 mul-exchange : tie.Need-mul-exchange Inv-loop μ-loop
 mul-exchange c = omega arith
 
-element-copy-out-exchange : tie.Need-element-copy-out-exchange Inv-loop μ-loop
-element-copy-out-exchange c = omega arith
+slice-read-exchange : tie.Need-slice-read-exchange Inv-loop μ-loop
+slice-read-exchange c = omega arith
 
 mul-exchange-2 : tie.Need-mul-exchange-2 Inv-loop μ-loop
 mul-exchange-2 c = omega arith
 
-element-copy-out-exchange-2 : tie.Need-element-copy-out-exchange-2 Inv-loop μ-loop
-element-copy-out-exchange-2 c = omega arith
+slice-read-exchange-2 : tie.Need-slice-read-exchange-2 Inv-loop μ-loop
+slice-read-exchange-2 c = omega arith
 
 exchange-requires : tie.Need-exchange-requires Inv-loop μ-loop
 exchange-requires c κs = omega arith
@@ -45,14 +46,14 @@ exchange-requires c κs = omega arith
 mul-a : tie.Need-mul-a Inv-loop μ-loop
 mul-a c = omega arith
 
-element-write-a : tie.Need-element-write-a Inv-loop μ-loop
-element-write-a c = omega arith
+slice-write-a : tie.Need-slice-write-a Inv-loop μ-loop
+slice-write-a c = omega arith
 
 mul-a-2 : tie.Need-mul-a-2 Inv-loop μ-loop
 mul-a-2 c = omega arith
 
-element-write-a-2 : tie.Need-element-write-a-2 Inv-loop μ-loop
-element-write-a-2 c = omega arith
+slice-write-a-2 : tie.Need-slice-write-a-2 Inv-loop μ-loop
+slice-write-a-2 c = simp length-set (omega arith)
 
 add-i : tie.Need-add-i Inv-loop μ-loop
 add-i c = omega arith
@@ -63,12 +64,15 @@ loop-less c = omega arith
 loop-again : tie.Need-loop-again Inv-loop μ-loop
 loop-again c =
     let k = c .before .before .before .before in
-    swapped-next _ _ _ _ _ _ (k .loop .inv) (c .before .before .before .loop-test .taken) (k .before .pre .1) _ _ (c .exchange .ensures .0) (c .exchange .ensures .1)
+    swapped-next _ _ _ _ _ _ (k .loop .inv) (c .before .before .before .loop-test .taken) (k .before .before .pre .1) _ _ (c .exchange .ensures .0) (c .exchange .ensures .1)
+
+same-length : tie.Need-same-length Inv-loop μ-loop
+same-length c = c .before .loop .inv .long ∙ sym (c .before .before .before .pre .0)
 
 returns : tie.Need-returns Inv-loop μ-loop
 returns c =
     let l = c .before .loop in
-    let e : l .i ≡ c .before .before .args .j = omega (arith, l .inv .most) in
+    let e : l .i ≡ c .before .before .before .args .j = omega (arith, l .inv .most) in
     rw e at (l .inv)
 
 pub swap-block-spec : {M : Type 1} → statement M
@@ -82,15 +86,16 @@ swap-block-spec =
     add-l
     add-l-2
     mul-exchange
-    element-copy-out-exchange
+    slice-read-exchange
     mul-exchange-2
-    element-copy-out-exchange-2
+    slice-read-exchange-2
     exchange-requires
     mul-a
-    element-write-a
+    slice-write-a
     mul-a-2
-    element-write-a-2
+    slice-write-a-2
     add-i
     loop-less
     loop-again
+    same-length
     returns)
