@@ -37,7 +37,7 @@ add-end : tie.Need-add-end Inv-loop μ-loop
 add-end c = omega (arith, room c)
 
 line-in-requires : tie.Need-line-in-requires Inv-loop μ-loop
-line-in-requires c κs = index-room (c .before .before .before .before .before .before .args .d) (c .before .before .before .size-of .ensures) (c .before .loop-test .taken)
+line-in-requires c κs = omega (arith, index-room (c .before .before .before .before .before .before .args .d) (c .before .before .before .size-of .ensures) (c .before .loop-test .taken))
 
 line-in-requires-2 : tie.Need-line-in-requires-2 Inv-loop μ-loop
 line-in-requires-2 c κs = index-room (c .before .before .before .before .before .before .before .args .d) (c .before .before .before .before .size-of .ensures) (c .before .before .loop-test .taken)
