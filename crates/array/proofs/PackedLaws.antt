@@ -18,6 +18,7 @@ use Rattle.laws.specs.Bits.{bit}
 use Rattle.line.specs.Cells.{IsLine, isOne, isErased}
 use Rattle.line.specs.Packed.{packBy, Packs}
 use Rattle.line.specs.declared.packed.Line.{Line}
+use Rattle.line.specs.Word.{value}
 use Rattle.line.proofs.RowLaws.{size-room, size-eights}
 use Rattle.words.specs.Network.{Turned}
 use Rattle.words.proofs.ZeroLaws.{Zeros, zeros-turned}
@@ -158,30 +159,30 @@ words-put p n i m m′ before after w e others same k h =
     dite (ℕ-discrete k i) (λ q. rw q e) (λ q. others k h q ∙ w k h ∙ ap (packBy p) (sym (same k q)))
 
 -- the words of line i pack row i
-pub held-line : (rows : List ℕ) (i : ℕ) (l : Line) → l .ones ≡ getD rows i 0 → l .erased ≡ getD rows (64 + i) 0 → LineIn rows i l
+pub held-line : (rows : List ℕ) (i : ℕ) (l : Line) → value (l .ones) ≡ getD rows i 0 → value (l .erased) ≡ getD rows (64 + i) 0 → LineIn rows i l
 held-line rows i l e f n m k h =
     let q : i < 64 = omega (arith, k .room) in
     record { room = k .room; cells = line-cells n n i (k .array) h; ones = e ∙ k .ones i q; erased = f ∙ k .erased i q }
 
 -- the words of line i made those of l
-pub held-put : (rows : List ℕ) (i : ℕ) (l : Line) → i < 64 → LinePut rows i l (set (set rows i (l .ones)) (64 + i) (l .erased))
+pub held-put : (rows : List ℕ) (i : ℕ) (l : Line) → i < 64 → LinePut rows i l (set (set rows i (value (l .ones))) (64 + i) (value (l .erased)))
 held-put rows i l few n m y k h p = record {
   room = k .room;
   array = with-line-cells n i m y (k .array) h (p .cells);
-  long = length-set one (64 + i) (l .erased) ∙ length-set rows i (l .ones) ∙ k .long;
+  long = length-set one (64 + i) (value (l .erased)) ∙ length-set rows i (value (l .ones)) ∙ k .long;
   ones = words-put isOne n i m (withLine n m i y) (λ j. getD rows j 0) (λ j. getD both j 0) (k .ones)
-      (getD-set-other one (64 + i) i (l .erased) 0 (λ e. omega arith) ∙ getD-set-same rows i (l .ones) 0 (omega (arith, k .long)) ∙ p .ones ∙ ap (packBy isOne) here)
-      (λ j q ne. getD-set-other one (64 + i) j (l .erased) 0 (λ e. omega arith) ∙ getD-set-other rows i j (l .ones) 0 ne) elsewhere;
+      (getD-set-other one (64 + i) i (value (l .erased)) 0 (λ e. omega arith) ∙ getD-set-same rows i (value (l .ones)) 0 (omega (arith, k .long)) ∙ p .ones ∙ ap (packBy isOne) here)
+      (λ j q ne. getD-set-other one (64 + i) j (value (l .erased)) 0 (λ e. omega arith) ∙ getD-set-other rows i j (value (l .ones)) 0 ne) elsewhere;
   erased = words-put isErased n i m (withLine n m i y) (λ j. getD rows (64 + j) 0) (λ j. getD both (64 + j) 0) (k .erased)
-      (getD-set-same one (64 + i) (l .erased) 0 (omega (arith, k .long, length-set rows i (l .ones))) ∙ p .erased ∙ ap (packBy isErased) here)
-      (λ j q ne. getD-set-other one (64 + i) (64 + j) (l .erased) 0 (λ e. ne (omega arith)) ∙ getD-set-other rows i (64 + j) (l .ones) 0 (λ e. omega arith)) elsewhere;
+      (getD-set-same one (64 + i) (value (l .erased)) 0 (omega (arith, k .long, length-set rows i (value (l .ones)))) ∙ p .erased ∙ ap (packBy isErased) here)
+      (λ j q ne. getD-set-other one (64 + i) (64 + j) (value (l .erased)) 0 (λ e. ne (omega arith)) ∙ getD-set-other rows i (64 + j) (value (l .ones)) 0 (λ e. omega arith)) elsewhere;
 }
   where
     one : List ℕ
-    one = set rows i (l .ones)
+    one = set rows i (value (l .ones))
 
     both : List ℕ
-    both = set one (64 + i) (l .erased)
+    both = set one (64 + i) (value (l .erased))
 
     room : i * n + n ≤ length m
     room = row-room n i m (k .array .long) h

@@ -18,6 +18,8 @@ use Rattle.line.specs.Cells.{cell, bit, isErased, erasures}
 use Rattle.line.specs.Codeword.{isCodeword}
 use Rattle.line.specs.Packed.{Packs, PacksWord}
 use Rattle.line.specs.declared.packed.Line.{Line}
+use Rattle.line.specs.declared.word.Word.{Word}
+use Rattle.line.specs.Word.{value}
 use Rattle.line.proofs.CellLaws.{erased-or-known}
 use Rattle.line.proofs.RowLaws.{size-room}
 use Rattle.array.specs.declared.report.Report.{Report}
@@ -75,13 +77,13 @@ pub record Testing (d : Degree) (rows : List ℕ) (all : Bool) (i : ℕ) : Type 
 pub testing-start : (d : Degree) (rows : List ℕ) → Testing d rows true 0
 testing-start d rows = record { low = omega arith; done = λ m a k. refl }
 
-pub testing-next : {d : Degree} {rows : List ℕ} {all b : Bool} {i n w : ℕ} {l : Line} → Testing d rows all i → n ≡ size d → i < n → LineIn rows i l → w ≡ l .ones
-    → ((ws : List ℕ) → PacksWord (size d) ws w → b ≡ isCodeword d ws) → Testing d rows (b && all) (i + 1)
+pub testing-next : {d : Degree} {rows : List ℕ} {all b : Bool} {i n : ℕ} {w : Word} {l : Line} → Testing d rows all i → n ≡ size d → i < n → LineIn rows i l → w ≡ l .ones
+    → ((ws : List ℕ) → PacksWord (size d) ws (value w) → b ≡ isCodeword d ws) → Testing d rows (b && all) (i + 1)
 testing-next {d} {rows} {all} {b} {i} {n} {w} c e h f o t = record {
   low = omega arith;
   done = λ m a k.
       let inside : i < size d = omega arith in
-      let p : PacksWord (size d) (line (size d) m i) w = record { room = size-room d; cells = line-cells (size d) (size d) i a inside; ones = o ∙ f (size d) m k inside .ones } in
+      let p : PacksWord (size d) (line (size d) m i) (value w) = record { room = size-room d; cells = line-cells (size d) (size d) i a inside; ones = ap value o ∙ f (size d) m k inside .ones } in
       rw add-one (ap₂ _&&_ (t (line (size d) m i) p) (c .done m a k));
 }
 
