@@ -11,7 +11,6 @@ use lib.ListN.{length, take, drop, getD}
 use Rattle.laws.specs.Sums.{sumTo}
 use Rattle.degree.specs.declared.Degree.{Degree}
 use Rattle.degree.specs.Degree.{size}
-use Rattle.line.specs.Cells.{IsLine}
 use Rattle.line.specs.Bounded.{bounded}
 use Rattle.line.specs.Decoding.{messages}
 use Rattle.line.specs.Clauses.{count as countOf}

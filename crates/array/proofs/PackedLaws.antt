@@ -1,4 +1,5 @@
--- Packed rows of an array: one line of it replaced, the array transposed, and its rows packed one after the other.
+-- Packed rows of an array: the first lines of an array replaced, a line looked up and written, the words transposed, and the rows
+-- packed one after the other.
 -- Assumes nothing.
 use mathlib.Core.Path.{_≡_, refl, sym, ap, ap₂, _∙_}
 use mathlib.Core.Bool.{Bool, true, false}
@@ -8,9 +9,9 @@ use Prim.Native.Nat.{ℕ, suc, _+_, _-_, _*_, _%_, _<_, _≤_}
 use native.Mathlib.Nat.{suc-mul, zero-mul}
 use native.Mathlib.Numerals.{add-one}
 use native.Mathlib.Omega.{arith}
-use borrow.Rule.Slice.PartMut.{putMid}
 use native.Mathlib.Decide.{decLt, ℕ-discrete}
-use lib.ListN.{length, take, drop, getD, set, length-append, length-take, length-drop, length-set, replicate, length-replicate, getD-replicate, List·getD-eq-default, drop-of-length-le}
+use borrow.Rule.Slice.PartMut.{putMid}
+use lib.ListN.{length, take, drop, getD, set, length-append, length-drop, length-set, replicate, length-replicate, getD-replicate, List·getD-eq-default, drop-of-length-le}
 use lib.Seq.{length-take-le, drop-drop, drop-at, take-at, take-take, take-add, drop-append-le, take-append-le, getD-take, getD-set-same, getD-set-other}
 use Rattle.degree.specs.declared.Degree.{Degree}
 use Rattle.degree.specs.Degree.{size}
@@ -49,14 +50,10 @@ module _ (n i : ℕ) (m y : List ℕ) (fits : i * n + n ≤ length m) (same : le
   head-length = rw (length-append, length-take-le at m (omega arith), same)
 
   -- what stands behind it stays
-  pub put-drop : drop (at + n) (withLine n m i y) ≡ drop (at + n) m
+  put-drop : drop (at + n) (withLine n m i y) ≡ drop (at + n) m
   put-drop = rw (← append-assoc) (drop-at (take at m ++ y) (drop n (drop at m)) (at + n) head-length ∙ drop-drop n at m)
 
-  -- so does what stands before it
-  pub put-take : take (at + n) (withLine n m i y) ≡ take at m ++ y
-  put-take = rw (← append-assoc) (take-at (take at m ++ y) (drop n (drop at m)) (at + n) head-length)
-
-  pub put-length : length (withLine n m i y) ≡ length m
+  put-length : length (withLine n m i y) ≡ length m
   put-length = simp (length-append, length-drop, length-take-le at m (omega arith), same) (omega arith)
 
   -- line i is y

@@ -9,7 +9,7 @@ use native.Mathlib.Nat.{suc-mul, zero-mul, add-assoc, zero-add}
 use native.Mathlib.Numerals.{add-one}
 use native.Mathlib.Omega.{arith}
 use borrow.Author.Tests.{eq-eqb, ne-eqb}
-use lib.ListN.{length, take}
+use lib.ListN.{take}
 use lib.Seq.{take-add, take-all}
 use Rattle.laws.specs.Tests.{every}
 use Rattle.degree.specs.declared.Degree.{Degree}
