@@ -4,7 +4,8 @@
 use mathlib.Core.Path.{_≡_, refl}
 use mathlib.Core.List.{List, [], _∷_}
 use Prim.Native.Nat.{ℕ}
-use Rattle.text.specs.Text.{shaped, digits, decimal, numberText, numbersText, refusalText, sheetText, printed}
+use Rattle.line.specs.Refusals.{given}
+use Rattle.text.specs.Text.{shaped, sheetTests, digits, decimal, numberText, numbersText, refusalText, printed}
 
 zero-is : decimal 0 ≡ 48 ∷ []
 unfolding digits decimal
@@ -24,26 +25,26 @@ refused c = c ∷ 32 ∷ 48 ∷ 32 ∷ 48 ∷ 32 ∷ 48 ∷ 10 ∷ []
 
 -- an empty input, 4 without a newline, 04, 4 with a carriage return, and 5
 nothing : printed [] ≡ refused 49
-unfolding printed refusalText numbersText numberText digits decimal
+unfolding printed given sheetTests refusalText numbersText numberText digits decimal
 nothing = refl
 
 no-newline : printed (52 ∷ []) ≡ refused 49
-unfolding printed refusalText numbersText numberText digits decimal
+unfolding printed given sheetTests refusalText numbersText numberText digits decimal
 no-newline = refl
 
 zero-four : printed (48 ∷ 52 ∷ 10 ∷ []) ≡ refused 49
-unfolding printed refusalText numbersText numberText digits decimal
+unfolding printed given sheetTests refusalText numbersText numberText digits decimal
 zero-four = refl
 
 carriage : printed (52 ∷ 13 ∷ 10 ∷ []) ≡ refused 49
-unfolding printed refusalText numbersText numberText digits decimal
+unfolding printed given sheetTests refusalText numbersText numberText digits decimal
 carriage = refl
 
 five : printed (53 ∷ 10 ∷ []) ≡ refused 49
-unfolding printed refusalText numbersText numberText digits decimal
+unfolding printed given sheetTests refusalText numbersText numberText digits decimal
 five = refl
 
 -- no lines after 4
 no-lines : printed (52 ∷ 10 ∷ []) ≡ refused 51
-unfolding printed sheetText shaped refusalText numbersText numberText digits decimal
+unfolding printed given sheetTests shaped refusalText numbersText numberText digits decimal
 no-lines = refl

@@ -1,14 +1,14 @@
 -- From the lines that are read to the text that is printed: each way through the tests, and the call of decode in between.
 -- Assumes nothing.
 use mathlib.Core.Path.{_≡_, refl, sym, ap, _∙_}
-use mathlib.Core.Bool.{Bool, true, false, cond, _&&_, true≢false}
+use mathlib.Core.Bool.{Bool, true, false, cond, not}
 use mathlib.Core.Logic.{dite}
 use mathlib.Core.List.{List, [], _∷_, map}
-use Prim.Native.Nat.{ℕ, suc, _+_, _-_, _*_, _<_, _≤_}
+use Prim.Native.Nat.{ℕ, suc, _+_, _-_, _*_, _^_, _<_, _≤_}
 use native.Mathlib.Nat.{mul-le-mul}
 use native.Mathlib.Decide.{decLt}
 use native.Mathlib.Omega.{arith}
-use borrow.Author.Tests.{eq-eqb, le-leb, eqb-true}
+use borrow.Author.Tests.{eq-eqb, le-leb, eqb-true, not-false}
 use lib.Dec.{eqb}
 use lib.ListN.{length, take, drop, replicate, length-drop, length-replicate, List·getD-eq-default, List·getD-map}
 use lib.Seq.{take-all}
@@ -19,20 +19,20 @@ use Rattle.degree.specs.declared.Named.the-variants.{Known, Unknown}
 use Rattle.degree.specs.Degree.{bits, size, named}
 use Rattle.line.specs.Cells.{cell, Cells, erasures}
 use Rattle.line.specs.declared.refusals.Refusal.{Refusal}
-use Rattle.line.specs.declared.refusals.Refusal.the-variants.{BadDegree, BadIterations, BadLength, BadCell}
 use Rattle.line.specs.declared.refusals.Call.{Call}
-use Rattle.line.specs.declared.refusals.Call.the-variants.{Taken}
 use Rattle.array.specs.declared.report.Report.{Report}
 use Rattle.array.specs.declared.entry.DecodeAnswer.{DecodeAnswer}
 use Rattle.array.specs.declared.entry.DecodeAnswer.the-variants as answer
-use Rattle.array.specs.Entries.{DecodeDone, refusalOf, countOf, erasuresOf, closedOf, cellsFor, countFor, erasuresFor, closedFor}
-use Rattle.line.specs.Refusals.{number, refusalIn, atMost}
-use Rattle.array.specs.DecodeRefusals.{decodeCall}
+use Rattle.array.specs.Refusals.{decodeTests}
+use Rattle.array.specs.Entries.{DecodeDone, refusalOf, countOf, erasuresOf, closedOf}
+use Rattle.line.specs.Refusals.{number, refusal, Tested, atMost}
+use Rattle.line.proofs.Refusing.{some-number, bits-named, known-size, none-applies, given-taken, given-refused, tested-known}
+use Rattle.laws.proofs.Tests.{and-true}
 use Rattle.array.specs.Plain.{plain, plainCount, closed}
 use Rattle.array.specs.Steps.{IsArray}
 use Rattle.array.specs.Runs.{Decoded}
 use Rattle.array.proofs.ArrayLaws.{length-lines, line-lines, line-at, each-cell}
-use Rattle.text.specs.Text.{byte, firstLine, placed, shaped, known, cellOf, cellsOf, zeros, reportText, refusalText, decodedText, sheetText}
+use Rattle.text.specs.Text.{byte, firstLine, placed, shaped, known, cellOf, cellsOf, zeros, sheetTests, reportText, refusalText, decodedText, printed}
 use Rattle.text.proofs.WritingLaws.{cells-even}
 
 -- ---- sizes
@@ -81,37 +81,31 @@ unfolding atMost
 small-at-most [] h = refl
 small-at-most (c ∷ cs) h = rw (le-leb c 2 (omega (arith, h 0))) (small-at-most cs (λ i. h (suc i)))
 
-named-bits : (d : Degree) → named (bits d) ≡ Known d
-named-bits Four = refl
-named-bits Six = refl
+module _ (d : Degree) (degree : ℕ) (r w before : List ℕ) (e : degree ≡ bits d) (a : IsArray d r) (l : length before ≡ size d * size d) (z : w ≡ zeros d) where
+  abbrev Tests : List (ℕ × Bool)
+  Tests = decodeTests degree 1 r w before []
 
--- a refusal has a number
-some : (why : Refusal) → number why ≡ 0 → ⊥
-some BadDegree e = omega arith
-some BadIterations e = omega arith
-some BadLength e = omega arith
-some BadCell e = omega arith
-
-module _ (d : Degree) (number′ : ℕ) (r w before : List ℕ) (e : number′ ≡ bits d) (a : IsArray d r) (l : length before ≡ size d * size d) (z : w ≡ zeros d) where
-  taken-call : decodeCall number′ 1 r w before ≡ Taken d
-  unfolding decodeCall
+  taken-call : (refusal Tests ≡ 0) × (named degree ≡ Known d)
+  unfolding decodeTests
   taken-call =
-      let long : length w ≡ 2 * 1 * size d = ap length z ∙ length-replicate (2 * size d) 0 ∙ omega arith in
-      rw (e, named-bits d, eq-eqb (length r) (size d * size d) (a .long), eq-eqb (length before) (size d * size d) l, eq-eqb (length w) (2 * 1 * size d) long, small-at-most r (a .small))
+      let long : length w ≡ 2 * 1 * size d = ap length z ∙ length-replicate (2 * size d) 0 ∙ omega arith in (
+        rw (e, bits-named d, eq-eqb (length r) (size d * size d) (a .long), eq-eqb (length before) (size d * size d) l, eq-eqb (length w) (2 * 1 * size d) long, small-at-most r (a .small)),
+        ap named e ∙ bits-named d,
+      )
 
-  module _ (after : List ℕ) (o : DecodeAnswer) (done : DecodeDone number′ 1 r w before after o) where
+  module _ (after : List ℕ) (o : DecodeAnswer) (done : DecodeDone degree 1 r w before after o) where
     -- what an answer says
     pub decoded-answer : (t : Report) → o ≡ answer.Decoded t → Decoded d 1 r (zeros d) after t
     decoded-answer t h = record {
-      cells = done .cells ∙ ap (λ (c : Call). cellsFor c 1 r w before) taken-call ∙ ap (plain d 1 r r) z;
-      count = sym (ap countOf h) ∙ done .count ∙ ap (λ (c : Call). countFor c 1 r w) taken-call ∙ ap (plainCount d 1 r r) z;
-      erasures = sym (ap erasuresOf h) ∙ done .erasures ∙ ap (λ (c : Call). erasuresFor c 1 r w) taken-call ∙ ap (λ (x : List ℕ). erasures (plain d 1 r r x)) z;
-      closed = sym (ap closedOf h) ∙ done .closed ∙ ap (λ (c : Call). closedFor c 1 r w) taken-call ∙ ap (λ (x : List ℕ). closed d (plain d 1 r r x)) z;
+      cells = done .cells ∙ given-taken Tests degree (λ d. plain d 1 r r w) before taken-call ∙ ap (plain d 1 r r) z;
+      count = sym (ap countOf h) ∙ done .count ∙ given-taken Tests degree (λ d. plainCount d 1 r r w) 0 taken-call ∙ ap (plainCount d 1 r r) z;
+      erasures = sym (ap erasuresOf h) ∙ done .erasures ∙ given-taken Tests degree (λ d. erasures (plain d 1 r r w)) 0 taken-call ∙ ap (λ (x : List ℕ). erasures (plain d 1 r r x)) z;
+      closed = sym (ap closedOf h) ∙ done .closed ∙ given-taken Tests degree (λ d. closed d (plain d 1 r r w)) false taken-call ∙ ap (λ (x : List ℕ). closed d (plain d 1 r r x)) z;
     }
 
     -- no answer is a refusal
     pub never-refused : (why : Refusal) → o ≡ answer.Refused why → ⊥
-    never-refused why h = some why (sym (ap refusalOf h) ∙ done .refusal ∙ ap refusalIn taken-call)
+    never-refused why h = some-number why (sym (ap refusalOf h) ∙ done .refusal ∙ taken-call .0)
 
 -- ---- what is printed for a decoding
 
@@ -122,39 +116,45 @@ report-is d t e f v = rw (v .cells, v .count, v .erasures, v .closed, f, e)
 
 -- ---- the tests
 
-and-left : (a b : Bool) → (a && b) ≡ true → a ≡ true
-and-left true b e = refl
-and-left false b e = absurd (true≢false (sym e))
+module _ (t : List ℕ) where
+  -- after the first line, the lines by their degree
+  pub sheet-known : (d : Degree) (r : Call) {rest : List ℕ} → rest ≡ drop 2 t → named (firstLine t) ≡ Known d
+      → Tested (bits d) ((3, not (shaped (size d) rest)) ∷ (4, not (known rest)) ∷ []) r → Tested (firstLine t) (sheetTests t) r
+  unfolding sheetTests
+  sheet-known d r {rest} f e h =
+      tested-known (firstLine t) d ((3, not (shaped (size d) rest)) ∷ (4, not (known rest)) ∷ []) (sheetTests t) r e
+      (rw (e, known-size (firstLine t) d e, f)) h
 
-module _ (d : Degree) (t : List ℕ) where
-  pub shape-refused : shaped (size d) t ≡ false → refusalText 3 ≡ sheetText d t
-  unfolding sheetText
-  shape-refused e = rw e
+  -- a text that is taken has the length of its lines
+  pub sheet-takes : (d : Degree) → (refusal (sheetTests t) ≡ 0) × (named (firstLine t) ≡ Known d) → length (drop 2 t) ≡ size d * (size d + 1)
+  unfolding sheetTests shaped
+  sheet-takes d h =
+      let n = 2 ^ firstLine t in
+      let p = none-applies (sheetTests t) tt (h .0) in
+      let q = and-true (eqb (length (drop 2 t)) (n * (n + 1))) (every (λ p. placed n p (byte (drop 2 t) p)) (length (drop 2 t))) (not-false _ (p .1 .0)) in
+      rw (known-size (firstLine t) d (h .1)) at (eqb-true (length (drop 2 t)) (n * (n + 1)) (q .0))
 
-  pub character-refused : shaped (size d) t ≡ true → known t ≡ false → refusalText 4 ≡ sheetText d t
-  unfolding sheetText
-  character-refused e f = rw (e, f)
+  -- what is printed
+  pub printed-taken : (d : Degree) → (refusal (sheetTests t) ≡ 0) × (named (firstLine t) ≡ Known d) → decodedText d (cellsOf (size d) (drop 2 t)) ≡ printed t
+  unfolding printed
+  printed-taken d h = sym (given-taken (sheetTests t) (firstLine t) (λ d. decodedText d (cellsOf (size d) (drop 2 t))) (refusalText (refusal (sheetTests t))) h)
 
-  pub both-passed : shaped (size d) t ≡ true → known t ≡ true → decodedText d (cellsOf (size d) t) ≡ sheetText d t
-  unfolding sheetText
-  both-passed e f = rw (e, f)
-
-pub shaped-length : (n : ℕ) (t : List ℕ) → shaped n t ≡ true → length t ≡ n * (n + 1)
-unfolding shaped
-shaped-length n t e =
-    eqb-true (length t) (n * (n + 1)) (and-left (eqb (length t) (n * (n + 1))) (every (λ p. placed n p (byte t p)) (length t)) e)
+  pub printed-refused : (why : Refusal) {x : ℕ} → x ≡ number why → number why ≡ refusal (sheetTests t) → refusalText x ≡ printed t
+  unfolding printed
+  printed-refused why e h =
+      ap refusalText (e ∙ h) ∙ sym (given-refused (sheetTests t) (firstLine t) (λ d. decodedText d (cellsOf (size d) (drop 2 t))) (refusalText (refusal (sheetTests t))) why h)
 
 -- the test of shape at the degree's n
 pub is-of : (d : Degree) {n : ℕ} {x y : Bool} → n ≡ size d → (t : List ℕ) → x ≡ shaped n t → x ≡ y → shaped (size d) t ≡ y
 is-of d e t f g = ap (λ (k : ℕ). shaped k t) (sym e) ∙ sym f ∙ g
 
 -- a first line that names a degree has two bytes
-pub named-long : (t : List ℕ) (d : Degree) → firstLine t ≡ Known d → 2 ≤ length t
+pub named-long : (t : List ℕ) (d : Degree) → named (firstLine t) ≡ Known d → 2 ≤ length t
 named-long t d e = dite (decLt (length t) 2) (λ q. absurd (short q)) (λ q. omega arith)
   where
     short : length t < 2 → ⊥
     short q =
-        let f : firstLine t ≡ Unknown = rw (List·getD-eq-default t 0 {n = 1} (omega arith)) in
+        let f : named (firstLine t) ≡ Unknown = rw (List·getD-eq-default t 0 {n = 1} (omega arith)) in
         let z : _≡_ {A = ℕ} 0 1 = cc in
         omega arith
 

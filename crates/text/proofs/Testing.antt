@@ -17,10 +17,6 @@ tested-more f other all p e = rw (add-one p, e) (swap (f p) other (every f p))
     swap false true c = refl
     swap false false c = refl
 
-pub and-true : (a : Bool) → a ≡ (a && true)
-and-true true = refl
-and-true false = refl
-
 -- the lines of a sheet have 4160 bytes at most
 pub room-le : (n : ℕ) → n ≤ 64 → n * (n + 1) ≤ 4160
 room-le n h = let l : n + 1 ≤ 65 = omega arith in mul-le-mul h l

@@ -2,17 +2,15 @@
 -- on `sheet`; open points are settled by docs/DECISIONS.md. A text is a list of bytes.
 use mathlib.Core.Bool.{Bool, cond, not, _&&_, _||_}
 use mathlib.Core.List.{List, [], _∷_, _++_, map}
-use Prim.Native.Nat.{ℕ, zero, suc, _+_, _*_, _/_, _%_}
+use Prim.Native.Nat.{ℕ, zero, suc, _+_, _-_, _*_, _/_, _%_, _^_}
 use lib.Dec.{eqb, ltb}
 use lib.ListN.{length, take, drop, getD, replicate}
 use Rattle.laws.specs.Bits.{bit}
 use Rattle.laws.specs.Tests.{every}
 use Rattle.degree.specs.declared.Degree.{Degree}
-use Rattle.degree.specs.declared.Degree.the-variants.{Four, Six}
-use Rattle.degree.specs.declared.Named.{Named}
-use Rattle.degree.specs.declared.Named.the-variants.{Known, Unknown}
 use Rattle.degree.specs.Degree.{size}
 use Rattle.line.specs.Cells.{erasures}
+use Rattle.line.specs.Refusals.{refusal, given, unnamed}
 use Rattle.array.specs.Arrays.{line, lines}
 use Rattle.array.specs.Plain.{plain, plainCount, closed}
 
@@ -22,9 +20,10 @@ byte t p = getD t p 0
 
 -- ---- what is read
 
--- "A first line other than just 4 or 6 and a newline is 1": 52 and 54 are the characters 4 and 6, 10 the newline
-abbrev pub firstLine : List ℕ → Named
-firstLine t = cond (eqb (byte t 1) 10) (cond (eqb (byte t 0) 52) (Known Four) (cond (eqb (byte t 0) 54) (Known Six) Unknown)) Unknown
+-- the degree that the first line says, "just" a digit and a newline: 48 is the character 0, 10 the newline. Any other first line
+-- says 0, which is no degree.
+abbrev pub firstLine : List ℕ → ℕ
+firstLine t = cond (eqb (byte t 1) 10) (byte t 0 - 48) 0
 
 -- what follows the first line
 abbrev pub afterFirst : List ℕ → List ℕ
@@ -34,7 +33,7 @@ afterFirst t = drop 2 t
 abbrev pub placed : ℕ → ℕ → ℕ → Bool
 placed n p b = cond (eqb (p % (n + 1)) n) (eqb b 10) (not (eqb b 10))
 
--- "Wrong byte totals or newline places are 3": n lines, each of n cells and a newline
+-- the byte total and the newline places of n lines, each of n cells and a newline
 unfoldable pub shaped : ℕ → List ℕ → Bool
 shaped n t = eqb (length t) (n * (n + 1)) && every (λ p. placed n p (byte t p)) (length t)
 
@@ -42,9 +41,18 @@ shaped n t = eqb (length t) (n * (n + 1)) && every (λ p. placed n p (byte t p))
 abbrev pub isKnown : ℕ → Bool
 isKnown b = eqb b 10 || (eqb b 48 || (eqb b 49 || eqb b 63))
 
--- "another character is 4"
+-- no other character
 unfoldable pub known : List ℕ → Bool
 known t = every (λ p. isKnown (byte t p)) (length t)
+
+-- the tests of what is read: "A first line other than just 4 or 6 and a newline is 1. Wrong byte totals or newline places are 3;
+-- another character is 4."
+unfoldable pub sheetTests : (input : List ℕ) → List (ℕ × Bool)
+sheetTests input =
+    (1, unnamed (firstLine input))
+    ∷ (3, not (shaped (2 ^ firstLine input) (afterFirst input)))
+    ∷ (4, not (known (afterFirst input)))
+    ∷ []
 
 -- the cell that a character stands for: ? is 2, unsure
 abbrev pub cellOf : ℕ → ℕ
@@ -100,14 +108,6 @@ unfoldable pub decodedText : Degree → List ℕ → List ℕ
 decodedText d r =
     reportText (size d) (plain d 1 r r (zeros d)) (plainCount d 1 r r (zeros d)) (erasures (plain d 1 r r (zeros d))) (closed d (plain d 1 r r (zeros d)))
 
--- what is printed for the lines after the first: the tests run in number order
-unfoldable pub sheetText : Degree → List ℕ → List ℕ
-sheetText d t = cond (shaped (size d) t) (cond (known t) (decodedText d (cellsOf (size d) t)) (refusalText 4)) (refusalText 3)
-
-abbrev pub textFor : Named → List ℕ → List ℕ
-textFor (Known d) t = sheetText d t
-textFor Unknown t = refusalText 1
-
 -- what `sheet` prints for what it reads
 unfoldable pub printed : List ℕ → List ℕ
-printed t = textFor (firstLine t) (afterFirst t)
+printed t = given (firstLine t) (sheetTests t) (λ d. decodedText d (cellsOf (size d) (afterFirst t))) (refusalText (refusal (sheetTests t)))

@@ -1,28 +1,33 @@
 // What is read: the first line, the tests of the lines after it, and their cells.
 use crate::turning::Turn;
 use crate::turning::put_turned;
-use degree::Degree;
-use degree::Named;
 ghost use mathlib.Core.Path.{_≡_};
-ghost use Prim.Native.Nat.{_+_, _*_, _≤_};
+ghost use Prim.Native.Nat.{_+_, _-_, _*_, _≤_};
 ghost use lib.ListN.{length};
-ghost use Rattle.text.specs.Text.{firstLine, placed, shaped, known, cellsOf};
+ghost use Rattle.laws.specs.Tests.{every};
+ghost use Rattle.text.specs.Text.{byte, firstLine, placed, shaped, known, cellsOf};
 
-pub fn first_line(text: &[u8]) -> Named
+// The number of a digit; 0 for a character below the digits.
+fn digit_of(character: u8) -> u64
+    ensures { λ r. ⌜ r ≡ character - 48 ⌝ }
+{
+    if character < 48 {
+        0
+    } else {
+        (character - 48) as u64
+    }
+}
+
+// The degree that the first line says, 0 for none.
+pub fn first_line(text: &[u8]) -> u64
     ensures { λ r. ⌜ r ≡ firstLine (now (text .entry)) ⌝ }
 {
     if text.len() < 2 {
-        return Named::Unknown;
-    }
-    if text[1] != 10 {
-        return Named::Unknown;
-    }
-    if text[0] == 52 {
-        Named::Known(Degree::Four)
-    } else if text[0] == 54 {
-        Named::Known(Degree::Six)
+        0
+    } else if text[1] == 10 {
+        digit_of(text[0])
     } else {
-        Named::Unknown
+        0
     }
 }
 
@@ -38,18 +43,30 @@ fn is_placed(n: usize, p: usize, byte: u8) -> bool
     }
 }
 
-// Test 3: n lines of n cells and a newline.
-pub fn is_shaped(n: usize, text: &[u8]) -> bool
+// Is every newline where it should be?
+fn all_placed(n: usize, text: &[u8]) -> bool
     requires { ⌜ n ≤ 64 ⌝ }
-    ensures { λ r. ⌜ r ≡ shaped n (now (text .entry)) ⌝ }
+    ensures { λ r. ⌜ r ≡ every (λ p. placed n p (byte (now (text .entry)) p)) (length (now (text .entry))) ⌝ }
 {
-    let mut all = text.len() == n * (n + 1);
+    let mut all = true;
     let mut p = 0;
     while p < text.len() {
         all = is_placed(n, p, text[p]) & all;
         p += 1;
     }
     all
+}
+
+// Test 3: n lines of n cells and a newline. No byte is read where their total is wrong.
+pub fn is_shaped(n: usize, text: &[u8]) -> bool
+    requires { ⌜ n ≤ 64 ⌝ }
+    ensures { λ r. ⌜ r ≡ shaped n (now (text .entry)) ⌝ }
+{
+    if text.len() == n * (n + 1) {
+        all_placed(n, text)
+    } else {
+        false
+    }
 }
 
 // Test 4: no character but a newline, 0, 1 and ?.

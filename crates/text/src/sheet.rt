@@ -8,12 +8,19 @@ use crate::writing::refusal_text;
 use crate::writing::report_text;
 use degree::Degree;
 use degree::Named;
+use degree::degree_of;
 use degree::size_of;
+use line::refusals::Call;
+use line::refusals::Refusal;
+use line::refusals::number_of;
 ghost use mathlib.Core.Path.{_≡_};
+ghost use mathlib.Core.Bool.{not};
+ghost use mathlib.Core.List.{[], _∷_};
 ghost use Prim.Native.Nat.{_+_, _*_, _≤_};
 ghost use lib.ListN.{length};
-ghost use Rattle.degree.specs.Degree.{size};
-ghost use Rattle.text.specs.Text.{cellsOf, decodedText, sheetText, printed};
+ghost use Rattle.degree.specs.Degree.{bits, size};
+ghost use Rattle.line.specs.Refusals.{Tested};
+ghost use Rattle.text.specs.Text.{firstLine, shaped, known, cellsOf, sheetTests, decodedText, printed};
 ghost use Rattle.text.specs.Writing.{Wrote};
 
 // Lines that are taken; `received` and `cells` are room for an array each.
@@ -51,30 +58,41 @@ fn taken_text(d: Degree, text: &[u8], output: &mut [u8]) -> usize
     array_text(d, text, &mut received[..long], &mut cells[..long], output)
 }
 
-// The tests of the lines after the first, in the order of their numbers.
-fn lines_text(d: Degree, text: &[u8], output: &mut [u8]) -> usize
-    requires { ⌜ 4244 ≤ length (now output) ⌝ }
-    ensures { λ r. ⌜ Wrote (now (output .entry)) 0 (sheetText d (now (text .entry))) (now (output .exit)) r ⌝ }
+// Tests 3 and 4, of the lines after the first.
+fn lines_test(d: Degree, text: &[u8]) -> Call
+    ensures { λ r. ⌜ Tested (bits d) ((3, not (shaped (size d) (now (text .entry)))) ∷ (4, not (known (now (text .entry)))) ∷ []) r ⌝ }
 {
     let n = size_of(d);
-    let shape = is_shaped(n, text);
-    let characters = is_known(text);
-    if !shape {
-        return refusal_text(3, output);
+    if is_shaped(n, text) {
+        if is_known(text) {
+            Call::Taken(d)
+        } else {
+            Call::Refused(Refusal::BadCell)
+        }
+    } else {
+        Call::Refused(Refusal::BadLength)
     }
-    if !characters {
-        return refusal_text(4, output);
+}
+
+// The tests of what is read, in the order of their numbers.
+fn sheet_test(input: &[u8]) -> Call
+    ensures { λ r. ⌜ Tested (firstLine (now (input .entry))) (sheetTests (now (input .entry))) r ⌝ }
+{
+    let named = degree_of(first_line(input));
+    match named {
+        Named::Known(d) => lines_test(d, &input[2..]),
+        Named::Unknown => Call::Refused(Refusal::BadDegree),
     }
-    taken_text(d, text, output)
 }
 
 pub fn text_into(input: &[u8], output: &mut [u8]) -> usize
     requires { ⌜ 4244 ≤ length (now output) ⌝ }
     ensures { λ r. ⌜ Wrote (now (output .entry)) 0 (printed (now (input .entry))) (now (output .exit)) r ⌝ }
 {
-    match first_line(input) {
-        Named::Known(d) => lines_text(d, &input[2..], output),
-        Named::Unknown => refusal_text(1, output),
+    let call = sheet_test(input);
+    match call {
+        Call::Taken(d) => taken_text(d, &input[2..], output),
+        Call::Refused(why) => refusal_text(number_of(why), output),
     }
 }
 

@@ -1,37 +1,46 @@
--- `sheet::text_into` meets its contract: a first line that names a degree has two bytes, and the lines after it follow.
+-- `text::sheet::text_into` meets its contract: what is printed for a text that is taken, and for one that is refused.
 -- Assumes nothing.
-use mathlib.Core.Path.{sym, _∙_}
+use mathlib.Core.Path.{sym, ap, _∙_}
 use native.Mathlib.Omega.{arith}
-use Rattle.text.specs.Text.{printed}
-use Rattle.text.proofs.SheetLaws.{named-long, rest-is}
+use lib.ListN.{length}
+use Rattle.text.proofs.SheetLaws.{named-long, rest-is, sheet-takes, printed-taken, printed-refused}
 use borrow.Author.Needs.{needs}
 use Rattle.text.proofs.sheet.text_into.Statement.{statement}
 use Rattle.text.proofs.sheet.text_into.Tie as tie
 
-first-line-requires : tie.Need-first-line-requires
-first-line-requires c κs = search needs
+sheet-test-requires : tie.Need-sheet-test-requires
+sheet-test-requires c κs = search needs
 
-enum-known-d : tie.Need-enum-known-d
-enum-known-d c = search needs
+enum-known-call : tie.Need-enum-known-call
+enum-known-call c = search needs
 
-sub-lines-text : tie.Need-sub-lines-text
-sub-lines-text c =
-    let s = c .before .before .before .before .before .before in
-    named-long (s .args .input .now) _ (sym (c .before .before .before .first-line .ensures) ∙ c .before .d .given .1)
+sub-taken-text : tie.Need-sub-taken-text
+sub-taken-text c =
+    let q = c .before in
+    let s = q .before .before .before .before .before .args in
+    named-long (s .input .now) (q .call .given .0 .0) ((rw (q .call .given .1) at (q .before .before .sheet-test .ensures)) .1)
 
-part-lines-text-start : tie.Need-part-lines-text-start
-part-lines-text-start c =
-    let h = named-long (c .before .before .before .before .before .before .args .input .now) _ (sym (c .before .before .before .first-line .ensures) ∙ c .before .d .given .1) in
+part-taken-text-start : tie.Need-part-taken-text-start
+part-taken-text-start c =
+    let q = c .before in
+    let s = q .before .before .before .before .before .args in
+    let h = named-long (s .input .now) (q .call .given .0 .0) ((rw (q .call .given .1) at (q .before .before .sheet-test .ensures)) .1) in
     omega arith
 
-part-lines-text-end : tie.Need-part-lines-text-end
-part-lines-text-end c = search needs
+part-taken-text-end : tie.Need-part-taken-text-end
+part-taken-text-end c = search needs
 
-lines-text-requires : tie.Need-lines-text-requires
-lines-text-requires c κs = search needs
+taken-text-requires : tie.Need-taken-text-requires
+taken-text-requires c κs =
+    let q = c .before .before .before in
+    let s = q .before .before .before .before .before in
+    (ap length (rest-is (s .args .input .now)) ∙ sheet-takes (s .args .input .now) (q .call .given .0 .0) (rw (q .call .given .1) at (q .before .before .sheet-test .ensures)), s .pre)
 
-enum-told : tie.Need-enum-told
-enum-told c = search needs
+enum-known-call-2 : tie.Need-enum-known-call-2
+enum-known-call-2 c = search needs
+
+number-of-requires : tie.Need-number-of-requires
+number-of-requires c κs = search needs
 
 refusal-text-requires : tie.Need-refusal-text-requires
 refusal-text-requires c κs = search needs
@@ -40,33 +49,33 @@ same-length : tie.Need-same-length
 same-length c = search needs
 
 returns : tie.Need-returns
-unfolding printed
 returns c =
-    let q = c .before .before .before .before .before .before .before .before in
-    let s = q .before .before .before in
-    let e = sym (q .first-line .ensures) ∙ c .before .before .before .before .before .before .d .given .1 in
-    rw (e, ← rest-is (s .args .input .now)) (c .before .before .lines-text .ensures)
+    let q = c .before .before .before .before .before .before in
+    let s = q .before .before .before .before .before .args in
+    let h = rw (q .call .given .1) at (q .before .before .sheet-test .ensures) in
+    rw (sym (printed-taken (s .input .now) (q .call .given .0 .0) h), ← rest-is (s .input .now)) (c .before .before .taken-text .ensures)
 
 same-length-2 : tie.Need-same-length-2
 same-length-2 c = search needs
 
 returns-2 : tie.Need-returns-2
-unfolding printed
 returns-2 c =
     let q = c .before .before .before .before .before .before in
-    rw (sym (q .first-line .ensures) ∙ c .before .before .before .before .enum-told .given .1) (c .before .before .refusal-text .ensures)
+    let s = q .before .before .before .before .before .args in
+    rw (sym (printed-refused (s .input .now) (q .call2 .given .0 .0) (c .before .before .before .before .number-of .ensures) (rw (q .call2 .given .1) at (q .before .before .sheet-test .ensures)))) (c .before .before .refusal-text .ensures)
 
 pub text-into-spec : {M : Type 1} → statement M
 text-into-spec =
     tie.close
     (tie.spec
-    first-line-requires
-    enum-known-d
-    sub-lines-text
-    part-lines-text-start
-    part-lines-text-end
-    lines-text-requires
-    enum-told
+    sheet-test-requires
+    enum-known-call
+    sub-taken-text
+    part-taken-text-start
+    part-taken-text-end
+    taken-text-requires
+    enum-known-call-2
+    number-of-requires
     refusal-text-requires
     same-length
     returns
