@@ -5,7 +5,7 @@ use crate::parts::first_mut;
 use crate::parts::first_words;
 use array::entry::DecodeAnswer;
 use line::entry::LineAnswer;
-use line::outgoing::MessagesAnswer;
+use line::entry::MessagesAnswer;
 use line::refusals::Refusal;
 
 fn number(why: Refusal) -> u64 {
@@ -63,7 +63,7 @@ pub fn line_messages(
     messages: &mut [u8],
     messages_long: usize,
 ) -> MessagesResult {
-    let answer = line::outgoing::line_messages(
+    let answer = line::entry::line_messages(
         degree,
         first(incoming, incoming_long),
         first(channel, channel_long),

@@ -1,107 +1,90 @@
 -- What the calls of one word or line tell, from what the entries below promise.
 -- Assumes nothing.
-use mathlib.Core.Path.{_≡_, refl, sym, ap, ap₂, _∙_}
-use mathlib.Core.Bool.{Bool, true, false, cond, _&&_}
+use mathlib.Core.Path.{_≡_, refl, sym, ap, _∙_}
+use mathlib.Core.Bool.{Bool, true, false, cond, not, true≢false}
 use mathlib.Core.List.{List, [], _∷_, _++_, append-nil}
-use Prim.Native.Nat.{ℕ}
+use Prim.Native.Nat.{ℕ, _^_}
 use native.Mathlib.Omega.{arith}
 use lib.ListN.{length, take, drop, drop-of-length-le}
 use Rattle.laws.specs.Bits.{bit}
 use Rattle.degree.specs.declared.Degree.{Degree}
-use Rattle.degree.specs.declared.Degree.the-variants.{Four, Six}
-use Rattle.degree.specs.declared.Named.{Named}
-use Rattle.degree.specs.declared.Named.the-variants.{Known, Unknown}
-use Rattle.degree.specs.Degree.{named}
-use Rattle.line.specs.declared.refusals.Refusal.{Refusal}
-use Rattle.line.specs.declared.refusals.Refusal.the-variants.{BadDegree, BadLength}
-use Rattle.line.specs.declared.refusals.Call.{Call}
-use Rattle.line.specs.declared.refusals.Call.the-variants.{Refused}
 use Rattle.line.specs.declared.entry.LineAnswer.{LineAnswer}
-use Rattle.line.specs.declared.outgoing.MessagesAnswer.{MessagesAnswer}
-use Rattle.line.specs.Bounded.{Answer, Failed, orBack}
-use Rattle.line.specs.Refusals.{refusalIn, long, atMost, tested, lineCall as lineBelow}
-use Rattle.line.specs.MessageRefusals.{messagesCall as messagesBelow}
-use Rattle.line.specs.Entries.{isFound, refusalOf, foundOf, Answered}
-use Rattle.line.specs.MessageEntries.{sentRefusal, sentCount, MessagesDone, messagesFor, countFor}
+use Rattle.line.specs.declared.entry.MessagesAnswer.{MessagesAnswer}
+use Rattle.line.specs.Bounded.{Answer, Failed, orBack, bounded}
+use Rattle.line.specs.Decoding.{messages}
+use Rattle.line.specs.Clauses.{count}
+use Rattle.line.specs.Refusals.{refusal, given, misfit, lineTests, messagesTests}
+use Rattle.line.specs.Entries.{isFound, refusalOf, foundOf, Answered, sentRefusal, sentCount, MessagesDone}
+use Rattle.line.proofs.Refusing.{some-none, none-applies, given-none}
 use Rattle.export.specs.Reports.{fits, told}
 use Rattle.export.specs.LineCalls.{lineCall, messagesCall, LineTold, MessagesTold}
-use Rattle.export.proofs.Handing.{Both, both, alike, lent-length, lent-part}
-
--- ---- calls that are refused for a length
-
-no-cells : (d : Degree) → long [] d ≡ false
-no-cells Four = refl
-no-cells Six = refl
-
-both-short : (v : Named) {f g : Degree → Bool} (a b : Bool) → ((d : Degree) → f d ≡ false) → ((d : Degree) → g d ≡ false)
-    → Both Refused (tested v f a) (tested v g b)
-both-short (Known d) a b e h = both BadLength (rw (e d)) (rw (h d))
-both-short Unknown a b e h = both BadDegree refl refl
+use Rattle.export.proofs.Handing.{or-true, no-line, Alike, same-refusal, same-given, lent-part}
 
 -- ---- a word or a line, decoded in place: the part that is handed on, and the cells after it
 
-module _ (bound degree : ℕ) (s : List ℕ) (answer : Call → List ℕ → Answer) (refused : (why : Refusal) (p : List ℕ) → answer (Refused why) p ≡ Failed) where
-  line-fit : lineBelow bound degree s ≡ lineCall true bound degree s
-  unfolding lineBelow lineCall
-  line-fit = refl
+module _ (bound degree : ℕ) (s : List ℕ) where
+  line-alike : Alike (lineTests bound degree) s
+  unfolding lineTests
+  line-alike = record {
+    right = refl;
+    wrong = rw (no-line degree, or-true (misfit (length s) (2 ^ degree)));
+    refused = λ z.
+        let n = none-applies (lineTests bound degree s (true ∷ [])) tt z in
+        true≢false (some-none (misfit (length s) (2 ^ degree) ∷ true ∷ []) (n .1 .0) .1 .0);
+  }
 
-  line-unfit : Both Refused (lineBelow bound degree []) (lineCall false bound degree s)
-  unfolding lineBelow lineCall
-  line-unfit = both-short (named degree) (atMost bound []) (atMost bound s) no-cells (λ d. refl)
+  module _ (asked : List ℕ → Degree → Answer) where
+    abbrev Given : List ℕ → List Bool → Answer
+    Given p more = given degree (lineTests bound degree p more) (asked p) Failed
 
-  module _ (fit : Bool) {X : Type 0} (give : Call → List ℕ → X) where
-    line-alike : ((why : Refusal) → give (Refused why) [] ≡ give (Refused why) s)
-        → give (lineBelow bound degree (cond fit s [])) (cond fit s []) ≡ give (lineCall fit bound degree s) s
-    line-alike h = alike Refused (λ p. lineBelow bound degree p) (λ b. lineCall b bound degree s) give s fit line-fit line-unfit h
+    -- cells of the part, followed by what is behind it
+    whole : (fit : Bool) (x : ℕ) {q : List ℕ} → x ≡ cond fit (length s) 0 → q ≡ orBack (cond fit s []) (Given (cond fit s []) [])
+        → q ++ drop x s ≡ orBack s (Given s (not fit ∷ []))
+    whole true x {q} e h =
+        rw (drop-of-length-le s {i = x} (omega arith), append-nil q) (h ∙ ap (orBack s) (same-given (lineTests bound degree) s line-alike true degree asked Failed))
+    whole false x {q} e h =
+        let none : Given [] [] ≡ Failed = given-none (lineTests bound degree [] []) degree (asked []) Failed (λ z. line-alike .refused (sym (line-alike .wrong) ∙ z)) in
+        let none′ : Given s (true ∷ []) ≡ Failed = given-none (lineTests bound degree s (true ∷ [])) degree (asked s) Failed (line-alike .refused) in
+        rw (e, h, none, none′)
 
-  -- cells of a part, followed by what is behind it
-  behind : (q : List ℕ) → q ++ drop (length s) s ≡ q
-  behind q = rw (drop-of-length-le s {i = length s} (omega arith), append-nil q)
-
-  pub line-told : (x : ℕ) {q old new : List ℕ} {a : LineAnswer} {number : ℕ} → x ≡ cond (fits 1 old) (length s) 0
-      → Answered (refusalIn (lineBelow bound degree (take x s))) (answer (lineBelow bound degree (take x s)) (take x s)) (take x s) q a
-      → number ≡ refusalOf a → new ≡ told (bit (foundOf a) ∷ []) old
-      → LineTold (lineCall (fits 1 old) bound degree s) (answer (lineCall (fits 1 old) bound degree s) s) s (q ++ drop x s) old new number
-  line-told x {q} {old} e done n t =
-      let fit = fits 1 old in
-      let part = lent-part fit s e in
-      let done′ = rw part at done in
-      let long : x ≡ length (cond fit s []) = lent-length fit s e ∙ ap length part in
-      record {
-        refusal = n ∙ done′ .refusal ∙ line-alike fit (λ c p. refusalIn c) (λ why. refl);
-        cells = ap₂ (λ (a b : List ℕ). a ++ b) (done′ .cells) (ap (λ (k : ℕ). drop k s) long) ∙ line-alike fit give same ∙ behind _;
-        report = t ∙ ap (λ (b : Bool). told (bit b ∷ []) old) (done′ .found ∙ line-alike fit (λ c p. isFound (answer c p)) (λ why. rw (refused why [], refused why s)));
-      }
-    where
-      give : Call → List ℕ → List ℕ
-      give c p = orBack p (answer c p) ++ drop (length p) s
-
-      same : (why : Refusal) → give (Refused why) [] ≡ give (Refused why) s
-      same why = rw (refused why [], refused why s) (sym (behind s))
+    pub line-told : (x : ℕ) {q old new : List ℕ} {a : LineAnswer} {number : ℕ} → x ≡ cond (fits 1 old) (length s) 0
+        → Answered (refusal (lineTests bound degree (take x s) [])) (Given (take x s) []) (take x s) q a
+        → number ≡ refusalOf a → new ≡ told (bit (foundOf a) ∷ []) old
+        → LineTold (refusal (lineCall bound degree s old)) (given degree (lineCall bound degree s old) (asked s) Failed) s (q ++ drop x s) old new number
+    line-told x {old} e done n t =
+        let fit = fits 1 old in
+        let done′ = rw (lent-part fit s e) at done in
+        record {
+          refusal = n ∙ done′ .refusal ∙ same-refusal (lineTests bound degree) s line-alike fit;
+          cells = whole fit x e (done′ .cells);
+          report = t ∙ ap (λ (b : Bool). told (bit b ∷ []) old) (done′ .found ∙ ap isFound (same-given (lineTests bound degree) s line-alike fit degree asked Failed));
+        }
 
 -- ---- the messages of a line
 
 module _ (degree : ℕ) (incoming channel : List ℕ) (filling : ℕ) (s : List ℕ) where
-  messages-fit : messagesBelow degree incoming channel s ≡ messagesCall true degree incoming channel s
-  unfolding messagesBelow messagesCall
-  messages-fit = refl
+  abbrev Tests : List ℕ → List Bool → List (ℕ × Bool)
+  Tests p more = messagesTests degree p channel s more
 
-  messages-unfit : Both Refused (messagesBelow degree [] channel s) (messagesCall false degree incoming channel s)
-  unfolding messagesBelow messagesCall
-  messages-unfit = both-short (named degree) _ _ (λ d. rw (no-cells d)) (λ d. refl)
-
-  module _ (fit : Bool) {X : Type 0} (give : Call → List ℕ → X) where
-    messages-alike : ((why : Refusal) → give (Refused why) [] ≡ give (Refused why) incoming)
-        → give (messagesBelow degree (cond fit incoming []) channel s) (cond fit incoming []) ≡ give (messagesCall fit degree incoming channel s) incoming
-    messages-alike h = alike Refused (λ p. messagesBelow degree p channel s) (λ b. messagesCall b degree incoming channel s) give incoming fit messages-fit messages-unfit h
+  messages-alike : Alike Tests incoming
+  unfolding messagesTests
+  messages-alike = record {
+    right = refl;
+    wrong = rw (no-line degree, or-true (misfit (length s) (2 ^ degree)), or-true (misfit (length channel) (2 ^ degree)), or-true (misfit (length incoming) (2 ^ degree)));
+    refused = λ z.
+        let n = none-applies (Tests incoming (true ∷ [])) tt z in
+        let k = 2 ^ degree in
+        true≢false (some-none (misfit (length incoming) k ∷ misfit (length channel) k ∷ misfit (length s) k ∷ true ∷ []) (n .1 .0) .1 .1 .1 .0);
+  }
 
   pub messages-told : {part after old new : List ℕ} {a : MessagesAnswer} {number : ℕ} → part ≡ cond (fits 1 old) incoming []
       → MessagesDone degree part channel filling s after a → number ≡ sentRefusal a → new ≡ told (sentCount a ∷ []) old
       → MessagesTold degree incoming channel filling s after old new number
   messages-told {old} e done n t =
+      let fit = fits 1 old in
       let done′ = rw e at done in
       record {
-        refusal = n ∙ done′ .refusal ∙ messages-alike (fits 1 old) (λ c p. refusalIn c) (λ why. refl);
-        cells = done′ .cells ∙ messages-alike (fits 1 old) (λ c p. messagesFor c p channel filling s) (λ why. refl);
-        report = t ∙ ap (λ (x : ℕ). told (x ∷ []) old) (done′ .count ∙ messages-alike (fits 1 old) (λ c p. countFor c p channel filling) (λ why. refl));
+        refusal = n ∙ done′ .refusal ∙ same-refusal Tests incoming messages-alike fit;
+        cells = done′ .cells ∙ same-given Tests incoming messages-alike fit degree (λ p d. messages (bounded d) p channel filling) s;
+        report = t ∙ ap (λ (x : ℕ). told (x ∷ []) old) (done′ .count ∙ same-given Tests incoming messages-alike fit degree (λ p d. count (bounded d) p channel filling) 0);
       }

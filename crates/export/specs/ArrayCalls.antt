@@ -2,63 +2,55 @@
 -- promise: the number that is returned, every lent cell at exit, and the report, for taken and refused calls alike. Encode and
 -- extract have no report, and promise what the entries below do.
 use mathlib.Core.Path.{_≡_}
-use mathlib.Core.Bool.{Bool, _&&_}
+use mathlib.Core.Bool.{Bool, false}
 use mathlib.Core.List.{List, [], _∷_}
 use Prim.Native.Nat.{ℕ, _*_}
-use lib.Dec.{eqb, ltb}
 use lib.ListN.{length, getD}
 use Rattle.laws.specs.Bits.{bit}
 use Rattle.degree.specs.declared.Degree.{Degree}
-use Rattle.degree.specs.declared.Named.{Named}
-use Rattle.degree.specs.declared.Named.the-variants.{Known, Unknown}
+use Rattle.degree.specs.declared.Named.the-variants.{Known}
 use Rattle.degree.specs.Degree.{size, named}
-use Rattle.line.specs.declared.refusals.Refusal.the-variants.{BadDegree}
-use Rattle.line.specs.declared.refusals.Call.{Call}
-use Rattle.line.specs.declared.refusals.Call.the-variants.{Taken, Refused}
+use Rattle.line.specs.Cells.{erasures}
+use Rattle.line.specs.Refusals.{refusal, given, misfit}
 use Rattle.array.specs.declared.entry.DecodeAnswer.{DecodeAnswer}
 use Rattle.array.specs.Encoding.{Sent}
-use Rattle.array.specs.Plain.{RowCondition}
-use Rattle.line.specs.Refusals.{refusalIn, atMost}
-use Rattle.array.specs.DecodeRefusals.{counted, fitting, tested}
-use Rattle.array.specs.Refusals.{test, refusal, left}
-use Rattle.array.specs.Entries.{countOf, erasuresOf, closedOf, cellsFor, countFor, erasuresFor, closedFor}
-use Rattle.export.specs.Reports.{fits, told}
+use Rattle.array.specs.Plain.{plain, plainCount, closed, RowCondition}
+use Rattle.array.specs.Refusals.{rowTests, decodeTests}
+use Rattle.array.specs.Entries.{countOf, erasuresOf, closedOf}
+use Rattle.export.specs.Reports.{told}
 
 -- ---- decode, with l iterations, received array r, filling words w, and the cells to write s
-
--- `fit` says whether the report has its length
-abbrev pub decodeTested : (fit : Bool) → Named → (l : ℕ) (r w s : List ℕ) → Call
-decodeTested fit Unknown l r w s = Refused BadDegree
-decodeTested fit (Known d) l r w s = tested (counted l) (fit && fitting (size d) l r w s) (atMost 2 r) d
-
-unfoldable pub decodeCall : (fit : Bool) (degree l : ℕ) (r w s : List ℕ) → Call
-decodeCall fit degree l r w s = decodeTested fit (named degree) l r w s
 
 -- the numbers of an answer: the count, the unsure cells, closed
 abbrev pub decodeNumbers : DecodeAnswer → List ℕ
 decodeNumbers a = countOf a ∷ erasuresOf a ∷ bit (closedOf a) ∷ []
 
--- the numbers that a call asks for
-abbrev pub numbersFor : Call → (l : ℕ) (r w : List ℕ) → List ℕ
-numbersFor call l r w = countFor call l r w ∷ erasuresFor call l r w ∷ bit (closedFor call l r w) ∷ []
+-- the tests, with a report of 3 numbers among the lengths
+abbrev pub decodeCall : (degree l : ℕ) (r w s report : List ℕ) → List (ℕ × Bool)
+decodeCall degree l r w s report = decodeTests degree l r w s (misfit (length report) 3 ∷ [])
+
+-- the numbers that a call with these tests asks for
+abbrev pub askedNumbers : (degree : ℕ) → List (ℕ × Bool) → (l : ℕ) (r w : List ℕ) → List ℕ
+askedNumbers degree tests l r w =
+    given degree tests (λ d. plainCount d l r r w) 0
+    ∷ given degree tests (λ d. erasures (plain d l r r w)) 0
+    ∷ bit (given degree tests (λ d. closed d (plain d l r r w)) false)
+    ∷ []
 
 pub record DecodeTold (degree l : ℕ) (r w before after old new : List ℕ) (number : ℕ) : Type 0 where
-  pub refusal : number ≡ refusalIn (decodeCall (fits 3 old) degree l r w before)
-  pub cells : after ≡ cellsFor (decodeCall (fits 3 old) degree l r w before) l r w before
-  pub report : new ≡ told (numbersFor (decodeCall (fits 3 old) degree l r w before) l r w) old
+  pub refusal : number ≡ refusal (decodeCall degree l r w before old)
+  pub cells : after ≡ given degree (decodeCall degree l r w before old) (λ d. plain d l r r w) before
+  pub report : new ≡ told (askedNumbers degree (decodeCall degree l r w before old) l r w) old
   -- for every sent array near which each received row is, the cells left are its cells, and closed is told as 1
-  pub sent : (d : Degree) (s : List ℕ) → decodeCall (fits 3 old) degree l r w before ≡ Taken d → Sent d s → RowCondition d r s → (after ≡ s) × (getD new 2 0 ≡ 1)
+  pub sent : (d : Degree) (s : List ℕ) → number ≡ 0 → named degree ≡ Known d → Sent d s → RowCondition d r s → (after ≡ s) × (getD new 2 0 ≡ 1)
 
 -- ---- the look-up of a row
 
-abbrev pub rowTests : (fit : Bool) → List ℕ → ℕ → Degree → ℕ
-rowTests fit cells index d =
-    test 3 (fit && (eqb (length cells) (size d * size d) && ltb index (size d))) (test 4 (atMost 2 cells) 0)
+-- the tests, with a report of 2 numbers among the lengths
+abbrev pub rowCall : (degree : ℕ) (cells : List ℕ) (index : ℕ) (report : List ℕ) → List (ℕ × Bool)
+rowCall degree cells index report = rowTests degree cells index (misfit (length report) 2 ∷ [])
 
 -- where the row starts, and its length; "every refused look-up gives an empty part", and its start is told as 0
-abbrev pub rowNumbers : (fit : Bool) → ℕ → List ℕ → ℕ → List ℕ
-rowNumbers fit degree cells index = left (named degree) (rowTests fit cells index) (λ d. index * size d ∷ size d ∷ []) (0 ∷ 0 ∷ [])
-
 pub record RowTold (degree : ℕ) (cells : List ℕ) (index : ℕ) (old new : List ℕ) (number : ℕ) : Type 0 where
-  pub refusal : number ≡ refusal (named degree) (rowTests (fits 2 old) cells index)
-  pub report : new ≡ told (rowNumbers (fits 2 old) degree cells index) old
+  pub refusal : number ≡ refusal (rowCall degree cells index old)
+  pub report : new ≡ told (given degree (rowCall degree cells index old) (λ d. index * size d) 0 ∷ given degree (rowCall degree cells index old) size 0 ∷ []) old

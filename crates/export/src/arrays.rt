@@ -1,7 +1,6 @@
 // The calls of an array.
 use crate::reports::bit_of;
 use crate::reports::lent;
-use crate::reports::number_of;
 use crate::reports::tell;
 use array::encoding::encode;
 use array::entry::DecodeAnswer;
@@ -9,9 +8,9 @@ use array::entry::decode;
 use array::extraction::extract;
 use array::rows::row;
 use array::rows::row_refusal;
+use line::refusals::number_of;
 ghost use mathlib.Core.Path.{_≡_};
-ghost use Rattle.array.specs.Refusals.{Encoded, Extracted};
-ghost use Rattle.array.specs.Entries.{refusalOf};
+ghost use Rattle.array.specs.Entries.{Encoded, Extracted, refusalOf};
 ghost use Rattle.export.specs.ArrayCalls.{decodeNumbers, DecodeTold, RowTold};
 
 // ---- an answer in document 01's numbers

@@ -1,18 +1,17 @@
 // The calls of one word or line.
 use crate::reports::bit_of;
 use crate::reports::lent;
-use crate::reports::number_of;
 use crate::reports::tell;
 use line::entry::LineAnswer;
+use line::entry::MessagesAnswer;
 use line::entry::bounded_distance;
 use line::entry::decode_line;
-use line::outgoing::MessagesAnswer;
-use line::outgoing::line_messages;
+use line::entry::line_messages;
+use line::refusals::number_of;
 ghost use mathlib.Core.Path.{_≡_};
 ghost use mathlib.Core.List.{[], _∷_};
 ghost use Rattle.laws.specs.Bits.{bit};
-ghost use Rattle.line.specs.Entries.{refusalOf, foundOf};
-ghost use Rattle.line.specs.MessageEntries.{sentRefusal, sentCount};
+ghost use Rattle.line.specs.Entries.{refusalOf, foundOf, sentRefusal, sentCount};
 ghost use Rattle.export.specs.Reports.{told};
 ghost use Rattle.export.specs.LineCalls.{BoundedTold, DecodeLineTold, MessagesTold};
 

@@ -1,24 +1,10 @@
-// The numbers of an answer, and the report: a lent slice that a call writes them to.
-use line::refusals::Refusal;
+// The report: a lent slice that a call writes its numbers to.
 use words::copying::copy_words;
 ghost use mathlib.Core.Path.{_≡_};
 ghost use mathlib.Core.Bool.{cond};
 ghost use lib.ListN.{length};
 ghost use Rattle.laws.specs.Bits.{bit};
-ghost use Rattle.line.specs.Refusals.{number};
 ghost use Rattle.export.specs.Reports.{told};
-
-// The refusal number of document 01's table.
-pub fn number_of(why: Refusal) -> u64
-    ensures { λ r. ⌜ r ≡ number why ⌝ }
-{
-    match why {
-        Refusal::BadDegree => 1,
-        Refusal::BadIterations => 2,
-        Refusal::BadLength => 3,
-        Refusal::BadCell => 4,
-    }
-}
 
 // Writes the numbers to a report of their length. A report of another length stays as it is.
 pub fn tell(numbers: &[u64], report: &mut [u64])

@@ -1,7 +1,6 @@
 -- `lines::pugdrel_bounded_distance` meets its contract: that of the entry below, for the part that is handed on.
 -- Assumes nothing.
-use mathlib.Core.Path.{refl}
-use Rattle.line.specs.Entries.{boundedFor}
+use Rattle.line.specs.Bounded.{bounded}
 use Rattle.export.specs.Reports.{fits}
 use Rattle.export.proofs.Handing.{lent-le, lent-length}
 use Rattle.export.proofs.LineTelling.{line-told}
@@ -40,7 +39,7 @@ returns c =
     let q = t .before .before .before .before in
     let h = q .before .before in
     let s = h .before .before .before .args in
-    line-told 1 (s .degree) (s .word .now) boundedFor (λ why p. refl) (h .lent .result) (h .lent .ensures) (q .bounded-distance .ensures) (t .tell-found .ensures .0) (t .tell-found .ensures .1)
+    line-told 1 (s .degree) (s .word .now) (λ p d. bounded d p) (h .lent .result) (h .lent .ensures) (q .bounded-distance .ensures) (t .tell-found .ensures .0) (t .tell-found .ensures .1)
 
 pub pugdrel-bounded-distance-spec : {M : Type 1} → statement M
 pugdrel-bounded-distance-spec =

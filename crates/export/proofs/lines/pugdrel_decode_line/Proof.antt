@@ -1,7 +1,7 @@
 -- `lines::pugdrel_decode_line` meets its contract: that of the entry below, for the part that is handed on.
 -- Assumes nothing.
-use mathlib.Core.Path.{refl}
-use Rattle.line.specs.Entries.{decodeFor}
+use Rattle.line.specs.Bounded.{bounded}
+use Rattle.line.specs.Decoding.{decode}
 use Rattle.export.specs.Reports.{fits}
 use Rattle.export.proofs.Handing.{lent-le, lent-length}
 use Rattle.export.proofs.LineTelling.{line-told}
@@ -40,7 +40,7 @@ returns c =
     let q = t .before .before .before .before in
     let h = q .before .before in
     let s = h .before .before .before .args in
-    line-told 2 (s .degree) (s .cells .now) (λ k p. decodeFor k p (s .filling)) (λ why p. refl) (h .lent .result) (h .lent .ensures) (q .decode-line .ensures) (t .tell-found .ensures .0) (t .tell-found .ensures .1)
+    line-told 2 (s .degree) (s .cells .now) (λ p d. decode (bounded d) p (s .filling)) (h .lent .result) (h .lent .ensures) (q .decode-line .ensures) (t .tell-found .ensures .0) (t .tell-found .ensures .1)
 
 pub pugdrel-decode-line-spec : {M : Type 1} → statement M
 pugdrel-decode-line-spec =

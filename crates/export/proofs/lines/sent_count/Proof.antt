@@ -1,7 +1,7 @@
 -- `lines::sent_count` meets its contract: one case for each answer.
 -- Assumes nothing.
 use mathlib.Core.Path.{sym, ap}
-use Rattle.line.specs.MessageEntries.{sentCount}
+use Rattle.line.specs.Entries.{sentCount}
 use borrow.Author.Needs.{needs}
 use Rattle.export.proofs.lines.sent_count.Statement.{statement}
 use Rattle.export.proofs.lines.sent_count.Tie as tie
