@@ -9,7 +9,6 @@ use native.Mathlib.Omega.{arith}
 use borrow.Author.Tests.{eqb-true}
 use lib.Dec.{eqb, leb}
 use lib.ListN.{length, getD}
-use Rattle.laws.specs.Bits.{bit}
 use Rattle.degree.specs.declared.Degree.{Degree}
 use Rattle.degree.specs.declared.Named.{Named}
 use Rattle.degree.specs.declared.Named.the-variants.{Known, Unknown}

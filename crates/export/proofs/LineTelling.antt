@@ -17,7 +17,7 @@ use Rattle.line.specs.Refusals.{refusal, given, misfit, lineTests, messagesTest
 use Rattle.line.specs.Entries.{isFound, refusalOf, foundOf, Answered, sentRefusal, sentCount, MessagesDone}
 use Rattle.line.proofs.Refusing.{some-none, none-applies, given-none}
 use Rattle.export.specs.Reports.{fits, told}
-use Rattle.export.specs.LineCalls.{lineCall, messagesCall, LineTold, MessagesTold}
+use Rattle.export.specs.LineCalls.{lineCall, LineTold, MessagesTold}
 use Rattle.export.proofs.Handing.{or-true, no-line, Alike, same-refusal, same-given, lent-part}
 
 -- ---- a word or a line, decoded in place: the part that is handed on, and the cells after it

@@ -8,7 +8,7 @@ use native.Mathlib.Omega.{arith}
 use borrow.Author.Tests.{eqb-true}
 use lib.ListN.{length, drop}
 use Rattle.laws.proofs.Tests.{and-true}
-use Rattle.line.specs.Refusals.{refusal, misfit}
+use Rattle.line.specs.Refusals.{refusal}
 use Rattle.line.proofs.Refusing.{unless-taken, unless-refused}
 use Rattle.text.specs.Text.{printed}
 use Rattle.text.specs.Writing.{Wrote}
