@@ -9,11 +9,10 @@ use native.Mathlib.Omega.{arith}
 use lib.Dec.{T, eqb, leb}
 use lib.ListN.{length, drop, drop-of-length-le}
 use lib.Seq.{drop-cons}
-use borrow.Author.Tests.{leb-true, eqb-true, eq-eqb, ne-eqb, not-true, not-false}
+use borrow.Author.Tests.{leb-true, eqb-true, eq-eqb, ne-eqb, not-false}
 use Rattle.laws.proofs.Tests.{and-true}
 use Rattle.degree.specs.declared.Degree.{Degree}
 use Rattle.degree.specs.declared.Degree.the-variants.{Four, Six}
-use Rattle.degree.specs.declared.Named.{Named}
 use Rattle.degree.specs.declared.Named.the-variants.{Known, Unknown}
 use Rattle.degree.specs.Degree.{bits, size, named}
 use Rattle.line.specs.declared.refusals.Refusal.{Refusal}
@@ -21,7 +20,7 @@ use Rattle.line.specs.declared.refusals.Refusal.the-variants.{BadDegree,
 use Rattle.line.specs.declared.refusals.Call.{Call}
 use Rattle.line.specs.declared.refusals.Call.the-variants.{Taken, Refused}
 use Rattle.line.specs.Cells.{cell, Cells}
-use Rattle.line.specs.Refusals.{number, refusal, unlessRefused, given, Tested, unnamed, misfit, some, atMost, lineTests, messagesTests}
+use Rattle.line.specs.Refusals.{number, refusal, unlessRefused, given, Tested, misfit, some, atMost, lineTests, messagesTests}
 
 -- ---- no cell above a bound, looked at one after the other
 
