@@ -26,11 +26,6 @@ pub found-is : {n : ℕ} {p : Answer} {t : Tried} → Answers n p t → t .found
 found-is (failed e) = e
 found-is (found e w) = e
 
--- an answer with another count
-pub recounted : {n : ℕ} {p : Answer} {t : Tried} (k : ℕ) → Answers n p t → Answers n p (record { found = t .found; word = t .word; count = k })
-recounted k (failed e) = failed e
-recounted k (found e w) = found e w
-
 module _ (d : Degree) (ys : List ℕ) (f : ℕ) {t : Tried} where
   pub few-tried : few ys ≡ true → Answers (size d) (choice ys (bounded d (filled One ys f)) (bounded d (filled Two ys f))) t → Answers (size d) (decode (bounded d) ys f) t
   unfolding decode

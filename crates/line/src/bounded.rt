@@ -23,11 +23,15 @@ ghost use Rattle.line.specs.Word.{value, width};
 ghost use lib.Dec.{eqb};
 ghost use Rattle.line.specs.Working.{Answers, Below, mended, usable};
 
-// What bounded-distance decoding of a word found, if it found anything, and the decodings counted so far. Where it failed, the
-// word says nothing.
+// What bounded-distance decoding of a word gave: was a codeword found, and which. Where none was, nothing is said of `word`.
 pub struct Tried {
     pub found: bool,
     pub word: Word,
+}
+
+// The same, and the decodings counted so far.
+pub struct Tally {
+    pub tried: Tried,
     pub count: u64,
 }
 
@@ -40,9 +44,9 @@ fn flip_where(yes: bool, word: Word, k: usize) -> Word
 
 // The word with the cells flipped that the positions and the parity say: the last cell too where the ones would stay odd in
 // number. Three flips are too many.
-fn mend(d: Degree, word: Word, wrong: Positions, parity: u16, count: u64) -> Tried
+fn mend(d: Degree, word: Word, wrong: Positions, parity: u16) -> Tried
     requires { ⌜ Below (size d) wrong ⌝ }
-    ensures { λ r. ⌜ (r .count ≡ count) × ((ws : List ℕ) → PacksWord (size d) ws (value word) → Answers (size d) (mended d ws wrong (eqb parity 0)) r) ⌝ }
+    ensures { λ r. ⌜ ((ws : List ℕ) → PacksWord (size d) ws (value word) → Answers (size d) (mended d ws wrong (eqb parity 0)) r) ⌝ }
 {
     let last = order_of(d);
     let even = parity == 0;
@@ -50,23 +54,16 @@ fn mend(d: Degree, word: Word, wrong: Positions, parity: u16, count: u64) -> Tri
         Positions::Zero => Tried {
             found: true,
             word: flip_where(!even, word, last),
-            count,
         },
         Positions::One(i) => Tried {
             found: true,
             word: flip_bit(flip_where(even, word, last), i),
-            count,
         },
         Positions::Two(i, j) => Tried {
             found: even,
             word: flip_bit(flip_bit(word, j), i),
-            count,
         },
-        Positions::Unfit => Tried {
-            found: false,
-            word,
-            count,
-        },
+        Positions::Unfit => Tried { found: false, word },
     }
 }
 
@@ -83,13 +80,25 @@ fn wrong_places(d: Degree, s: Syndrome, tables: &LineTables) -> Positions
     }
 }
 
-// The one way to bounded-distance decoding: it is handed the running count and gives it back one higher, and nothing else
-// adds to a line's count.
-pub fn counted(d: Degree, word: Word, count: u64, tables: &LineTables) -> Tried
-    requires { ⌜ (count < 1000) × TablesOf d (now tables) ⌝ }
-    ensures { λ r. ⌜ (r .count ≡ count + 1) × ((ws : List ℕ) → PacksWord (size d) ws (value word) → Answers (size d) (bounded d ws) r) ⌝ }
+// Bounded-distance decoding of a packed word.
+pub fn bounded_word(d: Degree, word: Word, tables: &LineTables) -> Tried
+    requires { ⌜ TablesOf d (now tables) ⌝ }
+    ensures { λ r. ⌜ ((ws : List ℕ) → PacksWord (size d) ws (value word) → Answers (size d) (bounded d ws) r) ⌝ }
 {
     let s = check_sums(d, word, tables);
     let wrong = wrong_places(d, s, tables);
-    mend(d, word, wrong, s.parity, count + 1)
+    mend(d, word, wrong, s.parity)
+}
+
+// The one way of a line's messages to bounded-distance decoding: it is handed the running count and gives it back one higher, and
+// nothing else adds to a line's count.
+pub fn counted(d: Degree, word: Word, count: u64, tables: &LineTables) -> Tally
+    requires { ⌜ (count < 1000) × TablesOf d (now tables) ⌝ }
+    ensures { λ r. ⌜ (r .count ≡ count + 1) × ((ws : List ℕ) → PacksWord (size d) ws (value word) → Answers (size d) (bounded d ws) (r .tried)) ⌝ }
+{
+    let tried = bounded_word(d, word, tables);
+    Tally {
+        tried,
+        count: count + 1,
+    }
 }

@@ -1,4 +1,5 @@
 // Line decoding in the order of Algorithm 1 of source document 000.
+use crate::bounded::Tally;
 use crate::bounded::Tried;
 use crate::bounded::counted;
 use crate::packed::Line;
@@ -12,6 +13,7 @@ use crate::word::same_word;
 use crate::word::zero_word;
 use degree::Degree;
 ghost use mathlib.Core.Path.{_≡_};
+ghost use mathlib.Core.Bool.{false};
 ghost use mathlib.Core.List.{List};
 ghost use Prim.Native.Nat.{ℕ, _+_, _*_, _<_, _≤_};
 ghost use Rattle.degree.specs.Degree.{size};
@@ -54,29 +56,31 @@ pub fn or_back(y: Line, t: Tried) -> Line
     if t.found { full(t.word) } else { y }
 }
 
+// What a word gives that is not decoded.
+pub fn nothing_found() -> Tried
+    ensures { λ r. ⌜ r .found ≡ false ⌝ }
+{
+    let word = zero_word();
+    Tried { found: false, word }
+}
+
 // Algorithm 1: count the unsure cells, fill, decode both words, measure and choose.
-pub fn try_packed(d: Degree, y: Line, filling: Word, count: u64, tables: &LineTables) -> Tried
+pub fn try_packed(d: Degree, y: Line, filling: Word, count: u64, tables: &LineTables) -> Tally
     requires { ⌜ (count < 900) × TablesOf d (now tables) ⌝ }
-    ensures { λ r. ⌜ (r .count ≤ count + 2) × ((ys : List ℕ) → Packs (size d) ys y → Answers (size d) (decode (bounded d) ys (value filling)) r × (r .count ≡ count + 2 * bit (few ys))) ⌝ }
+    ensures { λ r. ⌜ (r .count ≤ count + 2) × ((ys : List ℕ) → Packs (size d) ys y → Answers (size d) (decode (bounded d) ys (value filling)) (r .tried) × (r .count ≡ count + 2 * bit (few ys))) ⌝ }
 {
     if count_erasures(y) < Line::DISTANCE {
         let words = fill(y, filling);
         let one = counted(d, words[0], count, tables);
         let two = counted(d, words[1], one.count, tables);
-        let best = choose(y, one, two);
-        let word = best.word;
-        Tried {
-            found: best.found,
-            word,
+        let tried = choose(y, one.tried, two.tried);
+        Tally {
+            tried,
             count: two.count,
         }
     } else {
-        let none = zero_word();
-        Tried {
-            found: false,
-            word: none,
-            count,
-        }
+        let tried = nothing_found();
+        Tally { tried, count }
     }
 }
 
@@ -86,7 +90,7 @@ pub fn decode_packed(d: Degree, y: Line, filling: Word, count: u64, tables: &Lin
     ensures { λ r. ⌜ (r .count ≤ count + 2) × ((ys : List ℕ) → Packs (size d) ys y → Packs (size d) (decoded (bounded d) ys (value filling)) (r .line) × (r .count ≡ count + 2 * bit (few ys))) ⌝ }
 {
     let t = try_packed(d, y, filling, count, tables);
-    let line = or_back(y, t);
+    let line = or_back(y, t.tried);
     Sent {
         line,
         count: t.count,

@@ -1,7 +1,7 @@
 // The entries: what a caller outside may use. Each takes plain numbers and lent slices, asks nothing of them, and tests them
 // in document 01's order.
 use crate::bounded::Tried;
-use crate::bounded::counted;
+use crate::bounded::bounded_word;
 use crate::decoding::or_back;
 use crate::decoding::try_packed;
 use crate::messages::messages_of;
@@ -61,7 +61,7 @@ fn bounded_taken(d: Degree, word: &mut [u8]) -> LineAnswer
 {
     let tables = line_tables(d);
     let y = pack(word);
-    let t = counted(d, ones_of(y), 0, &tables); // no cell of a full word is unsure
+    let t = bounded_word(d, ones_of(y), &tables); // no cell of a full word is unsure
     answer_in(word, y, t)
 }
 
@@ -72,7 +72,7 @@ fn decode_taken(d: Degree, cells: &mut [u8], filling: u64) -> LineAnswer
     let tables = line_tables(d);
     let y = pack(cells);
     let t = try_packed(d, y, of_number(filling), 0, &tables);
-    answer_in(cells, y, t)
+    answer_in(cells, y, t.tried)
 }
 
 // The messages are written, the count is handed back.

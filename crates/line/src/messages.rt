@@ -10,6 +10,7 @@ use crate::clause::seen_at;
 use crate::decoding::Sent;
 use crate::decoding::choose;
 use crate::decoding::decode_packed;
+use crate::decoding::nothing_found;
 use crate::decoding::or_back;
 use crate::packed::Line;
 use crate::packed::cell_at;
@@ -77,7 +78,6 @@ fn near_only(d: Degree, h: Half, c: u64, k: u32) -> Tried
     Tried {
         found: t.found & v.reach,
         word,
-        count: t.count,
     }
 }
 
@@ -118,7 +118,7 @@ fn open_cell(
     let t = counted(d, word_of(words, s), count, tables);
     let one = near_only(d, b.one, c, k);
     let two = near_only(d, b.two, c, k);
-    let best = choose_with(z, s, t, one, two);
+    let best = choose_with(z, s, t.tried, one, two);
     let message = answer_at(z, best, k);
     Settled {
         cell: message,
@@ -177,14 +177,11 @@ fn message_at(d: Degree, k: u32, b: Base, count: u64, tables: &LineTables) -> Se
 
 fn no_half() -> Half {
     let none = zero_word();
+    let tried = nothing_found();
     Half {
         before: none,
         channel: none,
-        tried: Tried {
-            found: false,
-            word: none,
-            count: 0,
-        },
+        tried,
         far: 0,
     }
 }
@@ -203,9 +200,9 @@ fn few_base(d: Degree, y: Line, r: Line, filling: Word, erased: u32, tables: &Li
         channel: r,
         filling,
         erased,
-        own: or_back(y, choose(y, one, two)),
-        one: half_of(d, words[0], channel[0], one),
-        two: half_of(d, words[1], channel[1], two),
+        own: or_back(y, choose(y, one.tried, two.tried)),
+        one: half_of(d, words[0], channel[0], one.tried),
+        two: half_of(d, words[1], channel[1], two.tried),
         count: two.count,
     }
 }

@@ -54,33 +54,29 @@ returns : tie.Need-returns
 returns c =
     let s = c .before .before .before .before in
     let last = c .before .before .before .order-of .ensures in
-    (refl, λ ws p. rw (c .before .enum-told .given .1) (zero-mended (s .args .d) ws (eqb (s .args .parity) 0) refl (rw last at (c .flip-where .ensures (size (s .args .d)) ws p (rw last (last-below (s .args .d)))))))
+    λ ws p. rw (c .before .enum-told .given .1) (zero-mended (s .args .d) ws (eqb (s .args .parity) 0) refl (rw last at (c .flip-where .ensures (size (s .args .d)) ws p (rw last (last-below (s .args .d))))))
 
 returns-2 : tie.Need-returns-2
 returns-2 c =
     let s = c .before .before .before .before .before .before in
     let last = c .before .before .before .before .before .order-of .ensures in
     let w = c .before .before .before .wrong in
-    let h = subst (Below (size (s .args .d))) (w .given .1) (s .pre) in (
-      refl,
-      λ ws p.
-          let q = rw last at (c .before .flip-where2 .ensures (size (s .args .d)) ws p (rw last (last-below (s .args .d)))) in
-          rw (w .given .1) (one-mended (s .args .d) ws (w .given .0 .0) (eqb (s .args .parity) 0) refl (c .flip-bit .ensures (size (s .args .d)) _ q h)),
-    )
+    let h = subst (Below (size (s .args .d))) (w .given .1) (s .pre) in
+    λ ws p.
+    let q = rw last at (c .before .flip-where2 .ensures (size (s .args .d)) ws p (rw last (last-below (s .args .d)))) in
+    rw (w .given .1) (one-mended (s .args .d) ws (w .given .0 .0) (eqb (s .args .parity) 0) refl (c .flip-bit .ensures (size (s .args .d)) _ q h))
 
 returns-3 : tie.Need-returns-3
 returns-3 c =
     let s = c .before .before .before .before .before .before in
     let w = c .before .before .before .wrong2 in
-    let h = subst (Below (size (s .args .d))) (w .given .1) (s .pre) in (
-      refl,
-      λ ws p.
-          let q = c .before .flip-bit2 .ensures (size (s .args .d)) ws p (h .1) in
-          rw (w .given .1) (two-mended (s .args .d) ws (w .given .0 .0) (w .given .0 .1 .0) (eqb (s .args .parity) 0) refl (c .flip-bit3 .ensures (size (s .args .d)) _ q (h .0))),
-    )
+    let h = subst (Below (size (s .args .d))) (w .given .1) (s .pre) in
+    λ ws p.
+    let q = c .before .flip-bit2 .ensures (size (s .args .d)) ws p (h .1) in
+    rw (w .given .1) (two-mended (s .args .d) ws (w .given .0 .0) (w .given .0 .1 .0) (eqb (s .args .parity) 0) refl (c .flip-bit3 .ensures (size (s .args .d)) _ q (h .0)))
 
 returns-4 : tie.Need-returns-4
-returns-4 c = (refl, λ ws p. rw (c .enum-told2 .given .1) (failed refl))
+returns-4 c = λ ws p. rw (c .enum-told2 .given .1) (failed refl)
 
 pub mend-spec : {M : Type 1} → statement M
 mend-spec =

@@ -7,7 +7,7 @@ use borrow.Author.Needs.{needs}
 use Rattle.line.specs.declared.side.Side.the-variants.{One, Two}
 use Rattle.line.specs.Word.{value}
 use Rattle.line.proofs.Choosing.{is-few, is-many}
-use Rattle.line.proofs.EntryLaws.{recounted, few-tried, many-tried}
+use Rattle.line.proofs.EntryLaws.{few-tried, many-tried}
 use Rattle.line.proofs.decoding.try_packed.Statement.{statement}
 use Rattle.line.proofs.decoding.try_packed.Tie as tie
 
@@ -32,20 +32,20 @@ counted-requires-2 c κs = search needs
 choose-requires : tie.Need-choose-requires
 choose-requires c κs = search needs
 
-zero-word-requires : tie.Need-zero-word-requires
-zero-word-requires c κs = search needs
+nothing-found-requires : tie.Need-nothing-found-requires
+nothing-found-requires c κs = search needs
 
 returns : tie.Need-returns
 returns c =
-    let f = c .before .before .before .before .before .before in
+    let f = c .before .before .before .before .before in
     let e = f .before .before in
     let s = e .before in (
-      omega (arith, c .before .before .before .before .counted .ensures .0, c .before .before .counted2 .ensures .0),
+      omega (arith, c .before .before .before .counted .ensures .0, c .before .counted2 .ensures .0),
       λ ys h.
           let few = is-few ys _ (e .count-erasures .ensures .1 _ ys h) (f .before .if1 .taken) in
-          let one = c .before .before .before .before .counted .ensures .1 _ (f .fill .ensures _ ys h One) in
-          let two = c .before .before .counted2 .ensures .1 _ (f .fill .ensures _ ys h Two) in
-          (few-tried (s .args .d) ys (value (s .args .filling)) few (recounted _ (c .before .choose .ensures _ ys _ _ h one two)), rw few (omega (arith, c .before .before .before .before .counted .ensures .0, c .before .before .counted2 .ensures .0))),
+          let one = c .before .before .before .counted .ensures .1 _ (f .fill .ensures _ ys h One) in
+          let two = c .before .counted2 .ensures .1 _ (f .fill .ensures _ ys h Two) in
+          (few-tried (s .args .d) ys (value (s .args .filling)) few (c .choose .ensures _ ys _ _ h one two), rw few (omega (arith, c .before .before .before .counted .ensures .0, c .before .counted2 .ensures .0))),
     )
 
 returns-2 : tie.Need-returns-2
@@ -53,8 +53,8 @@ returns-2 c = let s = c .before .before .before in (
   omega arith,
   λ ys h.
       let many = is-many ys _ (c .before .before .count-erasures .ensures .1 _ ys h) (c .before .if1 .left) in
-      (many-tried (s .args .d) ys (value (s .args .filling)) many refl, rw many (omega arith)),
+      (many-tried (s .args .d) ys (value (s .args .filling)) many (c .nothing-found .ensures), rw many (omega arith)),
 )
 
 pub try-packed-spec : {M : Type 1} → statement M
-try-packed-spec = tie.close (tie.spec count-erasures-requires fill-requires array-copy-out-counted counted-requires array-copy-out-counted-2 counted-requires-2 choose-requires zero-word-requires returns returns-2)
+try-packed-spec = tie.close (tie.spec count-erasures-requires fill-requires array-copy-out-counted counted-requires array-copy-out-counted-2 counted-requires-2 choose-requires nothing-found-requires returns returns-2)

@@ -16,8 +16,8 @@ pack-requires c κs = let s = c .before .before .before in packable (s .args .d)
 ones-of-requires : tie.Need-ones-of-requires
 ones-of-requires c κs = search needs
 
-counted-requires : tie.Need-counted-requires
-counted-requires c κs = search needs
+bounded-word-requires : tie.Need-bounded-word-requires
+bounded-word-requires c κs = search needs
 
 answer-in-requires : tie.Need-answer-in-requires
 answer-in-requires c κs =
@@ -34,7 +34,7 @@ returns c =
     let k = t .before .before .before in
     let s = k .before .before .before .before in
     let y = sized (s .pre .long) (k .pack .ensures) in
-    a .answer-in .ensures _ _ y (t .counted .ensures .1 _ (as-word (t .before .before .ones-of .ensures) (s .pre .small) y))
+    a .answer-in .ensures _ _ y (t .bounded-word .ensures _ (as-word (t .before .before .ones-of .ensures) (s .pre .small) y))
 
 pub bounded-taken-spec : {M : Type 1} → statement M
-bounded-taken-spec = tie.close (tie.spec line-tables-requires pack-requires ones-of-requires counted-requires answer-in-requires same-length returns)
+bounded-taken-spec = tie.close (tie.spec line-tables-requires pack-requires ones-of-requires bounded-word-requires answer-in-requires same-length returns)
