@@ -1,16 +1,18 @@
 -- What holds after each turn of the loops over cells and words.
 -- Assumes nothing.
 use mathlib.Core.Path.{_≡_, refl, sym, ap, ap₂, _∙_, subst}
+use mathlib.Core.Bool.{cond}
 use mathlib.Core.List.{List, _++_, append-assoc, append-nil}
-use Prim.Native.Nat.{ℕ, suc, _+_, _-_, _*_, _/_, _%_, _<_, _≤_}
-use native.Mathlib.Nat.{zero-mul, one-mul, suc-mul, add-zero, add-assoc, sub-zero, add-sub-cancel-left, not-suc-le-zero}
+use Prim.Native.Nat.{ℕ, zero, suc, _+_, _-_, _*_, _<_, _≤_}
+use native.Mathlib.Nat.{zero-mul, one-mul, suc-mul, add-zero, add-assoc, add-sub-cancel-left, not-suc-le-zero}
 use native.Mathlib.Decide.{ℕ-discrete}
 use native.Mathlib.Numerals.{add-one}
 use native.Mathlib.Omega.{arith}
 use borrow.Rule.Slice.PartMut.{putMid, same-len-mid}
-use lib.Bits.{bitXor, xor-zero-r}
+use lib.Bits.{bitXor}
+use lib.Dec.{eqb}
 use lib.ListN.{length, take, drop, getD, set, length-set, length-drop, drop-of-length-le}
-use lib.Seq.{length-take-le, getD-take, getD-drop, ext-getD, take-suc-set, take-all, take-at, drop-at, drop-drop, getD-set-same, getD-set-other}
+use lib.Seq.{length-take-le, getD-take, getD-drop, ext-getD, take-at, drop-at, drop-drop, getD-set-same, getD-set-other}
 use Rattle.laws.specs.Bits.{bitAt}
 use Rattle.laws.proofs.Bits.{bit-at-lt}
 use Rattle.laws.specs.Digits.{digits}
@@ -24,7 +26,8 @@ use Rattle.array.specs.EncodedRows.{EncodedRows, rowWord}
 use Rattle.laws.specs.Sums.{xorTo}
 use Rattle.array.proofs.ArrayLaws.{Even, line-at, line-cells, length-line, length-lines, line-room}
 use Rattle.line.proofs.Bounds.{square-le, message-le}
-use Rattle.laws.proofs.Linear.{to-last}
+use Rattle.laws.proofs.DigitSums.{digits-length}
+use Rattle.laws.proofs.Linear.{to-last, digits-at}
 
 -- ---- the message rows, a row a turn
 
@@ -70,9 +73,9 @@ module _ {d : Degree} {k : ℕ} {m ws₀ ws : List ℕ} {a at : ℕ} (w : Encodi
     pub encoding-cells : IsWord (messageSize d * messageSize d) m → IsWord (messageSize d) (take (at + k - at) (drop at m))
     encoding-cells M = subst (λ (x : ℕ). IsWord x (take (at + k - at) (drop at m))) (w .count) (rw encoding-part (line-cells k k a (whole M) h))
 
-    pub encoding-next : length ws₀ ≡ 64 → (x : ℕ) → PacksWord (size d) (encodeLine d (take (at + k - at) (drop at m))) x
+    pub encoding-next : length ws₀ ≡ 64 → (x : ℕ) {word : ℕ} → x ≡ word → PacksWord (size d) (encodeLine d (take (at + k - at) (drop at m))) word
         → Encoding d k m ws₀ (set ws a x) (a + 1) (at + k)
-    encoding-next l x e = record {
+    encoding-next l x f e = record {
       count = w .count;
       low = omega arith;
       place = omega (arith, w .place, suc-mul a k);
@@ -81,10 +84,16 @@ module _ {d : Degree} {k : ℕ} {m ws₀ ws : List ℕ} {a at : ℕ} (w : Encodi
     }
       where
         pick : (b : ℕ) → Dec (b ≡ a) → b < a + 1 → PacksWord (size d) (encodeLine d (line k m b)) (getD (set ws a x) b 0)
-        pick b (yes z) q = rw (z, getD-set-same ws a x 0 (encoding-word l), ← encoding-part) e
+        pick b (yes z) q = rw (z, getD-set-same ws a x 0 (encoding-word l), f, ← encoding-part) e
         pick b (no z) q = rw (getD-set-other ws a b x 0 z) (w .words b (omega (arith, z)))
 
 -- ---- a row of the array, a word a turn
+
+-- what is added where a bit is 1 is the bit's multiple
+where-one : (x b : ℕ) → b < 2 → cond (eqb b 1) x 0 ≡ b * x
+where-one x zero h = sym (zero-mul x)
+where-one x (suc zero) h = sym (one-mul x)
+where-one x (suc (suc b)) h = absurd (omega arith)
 
 module _ (t ws : List ℕ) (i sum a : ℕ) (e : sum ≡ rowWord t ws a i) where
   more : rowWord t ws (a + 1) i ≡ bitXor sum (bitAt (getD t a 0) i * getD ws a 0)
@@ -93,44 +102,37 @@ module _ (t ws : List ℕ) (i sum a : ℕ) (e : sum ≡ rowWord t ws a i) where
       ap (λ (x : ℕ). xorTo x (λ a. bitAt (getD t a 0) i * getD ws a 0)) (add-one a)
       ∙ to-last a (λ a. bitAt (getD t a 0) i * getD ws a 0) ∙ ap (λ (x : ℕ). bitXor x (bitAt (getD t a 0) i * getD ws a 0)) (sym e)
 
-  -- an entry that has bit i, and another
-  pub row-one : bitAt (getD t a 0) i ≡ 1 → bitXor sum (getD ws a 0) ≡ rowWord t ws (a + 1) i
-  row-one h = sym (more ∙ rw (h, one-mul))
-
-  pub row-other : (bitAt (getD t a 0) i ≡ 1 → ⊥) → sum ≡ rowWord t ws (a + 1) i
-  row-other h =
-      let z : bitAt (getD t a 0) i ≡ 0 = omega (arith, bit-at-lt (getD t a 0) i) in
-      sym (more ∙ rw (z, zero-mul) (xor-zero-r sum))
+  -- one word more: it is added where its entry has bit i
+  pub row-next : {unit word bit next : ℕ} → unit ≡ getD t a 0 → bit ≡ bitAt unit i → word ≡ getD ws a 0 → next ≡ bitXor sum (cond (eqb bit 1) word 0)
+      → next ≡ rowWord t ws (a + 1) i
+  row-next u b w n =
+      n ∙ ap₂ (λ (x y : ℕ). bitXor sum (cond (eqb x 1) y 0)) (b ∙ ap (λ (x : ℕ). bitAt x i) u) w
+      ∙ ap (bitXor sum) (where-one (getD ws a 0) (bitAt (getD t a 0) i) (bit-at-lt (getD t a 0) i)) ∙ sym more
 
   pub row-all : (k : ℕ) → a ≤ k → k ≤ a → sum ≡ rowWord t ws k i
   row-all k l h = let n : a ≡ k = omega arith in e ∙ ap (λ (x : ℕ). rowWord t ws x i) n
 
 -- ---- bits written into a row, a cell a turn
 
-pub record Writing (word : ℕ) (row₀ row : List ℕ) (rest j : ℕ) : Type 0 where
-  pub low : j ≤ length row₀
+pub record Writing (word : ℕ) (row₀ row : List ℕ) (j : ℕ) : Type 0 where
   pub long : length row ≡ length row₀
-  pub left : take j row ++ digits (length row₀ - j) rest ≡ digits (length row₀) word
+  pub cells : (i : ℕ) → i < j → getD row i 0 ≡ bitAt word i
 
-pub writing-start : (word : ℕ) (row : List ℕ) → Writing word row row word 0
-writing-start word row = record { low = omega arith; long = refl; left = rw sub-zero }
+pub writing-start : (word : ℕ) (row : List ℕ) → Writing word row row 0
+writing-start word row = record { long = refl; cells = λ i h. absurd (not-suc-le-zero h) }
 
-pub writing-next : {word : ℕ} {row₀ row : List ℕ} {rest j : ℕ} → Writing word row₀ row rest j → j < length row
-    → Writing word row₀ (set row j (rest % 2)) (rest / 2) (j + 1)
-unfolding digits
-writing-next {word} {row₀} {row} {rest} {j} w h =
-    let l : length row₀ - j ≡ suc (length row₀ - suc j) = omega (arith, w .long) in
-    record {
-      low = omega (arith, w .long);
-      long = length-set row j (rest % 2) ∙ w .long;
-      left = rw (add-one, take-suc-set row j (rest % 2) h, append-assoc) (ap (λ (k : ℕ). take j row ++ digits k rest) (sym l) ∙ w .left);
-    }
+module _ {word : ℕ} {row₀ row : List ℕ} {j : ℕ} (w : Writing word row₀ row j) where
+  pub writing-next : j < length row → (x : ℕ) → x ≡ bitAt word j → Writing word row₀ (set row j x) (j + 1)
+  writing-next h x e = record { long = length-set row j x ∙ w .long; cells = λ i q. pick i (ℕ-discrete i j) q }
+    where
+      pick : (i : ℕ) → Dec (i ≡ j) → i < j + 1 → getD (set row j x) i 0 ≡ bitAt word i
+      pick i (yes z) q = rw (z, getD-set-same row j x 0 h) e
+      pick i (no z) q = getD-set-other row j i x 0 z ∙ w .cells i (omega (arith, z))
 
-pub writing-end : {word : ℕ} {row₀ row : List ℕ} {rest j : ℕ} → Writing word row₀ row rest j → length row ≤ j → row ≡ digits (length row₀) word
-unfolding digits
-writing-end {word} {row₀} {row} {rest} {j} w h =
-    let z : length row₀ - j ≡ 0 = omega (arith, w .long) in
-    sym (append-nil row) ∙ ap₂ (λ (x : List ℕ) (k : ℕ). x ++ digits k rest) (sym (take-all j row h)) (sym z) ∙ w .left
+  pub writing-end : length row ≤ j → row ≡ digits (length row₀) word
+  writing-end h =
+      ext-getD 0 row (digits (length row₀) word) (w .long ∙ sym (digits-length (length row₀) word))
+      (λ i q. w .cells i (omega arith) ∙ sym (digits-at (length row₀) word i (omega (arith, w .long))))
 
 -- ---- lines written, a line a turn: of k lines of n cells the first i are new, the others as they were
 

@@ -1,39 +1,51 @@
 -- `encoding::row_word` meets its contract. The loop's invariant: the sum is that of the first a words.
 -- Assumes nothing.
 use Prim.Native.Nat.{_-_, _≤_}
-use mathlib.Core.Path.{_≡_, refl}
-use mathlib.Core.Logic.{⊎-elim}
+use mathlib.Core.Path.{_≡_}
 use native.Mathlib.Omega.{arith}
 use Rattle.laws.specs.Sums.{xorTo}
+use Rattle.line.specs.Word.{value}
 use Rattle.array.specs.EncodedRows.{rowWord}
-use Rattle.array.proofs.Loops.{row-one, row-other, row-all}
+use Rattle.array.proofs.Loops.{row-next, row-all}
 use Rattle.array.proofs.encoding.row_word.Statement.{statement}
 use Rattle.array.proofs.encoding.row_word.Tie as tie
 
 abbrev Inv-loop : tie.InvT-loop
-Inv-loop k units words i sum₀ a₀ sum a = (a ≤ k) × (sum ≡ rowWord units words a i)
+Inv-loop k units words i sum₀ a₀ sum a = (a ≤ k) × (value sum ≡ rowWord units words a i)
 
 abbrev μ-loop : tie.MeasureT-loop
 μ-loop k units words i sum₀ a₀ sum a = k - a
 
+zero-word-requires : tie.Need-zero-word-requires Inv-loop μ-loop
+zero-word-requires c κs = tt
+
 loop-holds : tie.Need-loop-holds Inv-loop μ-loop
 unfolding rowWord xorTo
-loop-holds c = (omega arith, refl)
+loop-holds c = (omega arith, c .zero-word .ensures)
 
-mul-if1 : tie.Need-mul-if1 Inv-loop μ-loop
-mul-if1 c = omega arith
+mul-of-number : tie.Need-mul-of-number Inv-loop μ-loop
+mul-of-number c = omega arith
 
-element-copy-out-if1 : tie.Need-element-copy-out-if1 Inv-loop μ-loop
-element-copy-out-if1 c = omega arith
+element-copy-out-of-number : tie.Need-element-copy-out-of-number Inv-loop μ-loop
+element-copy-out-of-number c = omega arith
 
-shr-if1 : tie.Need-shr-if1 Inv-loop μ-loop
-shr-if1 c = omega arith
+of-number-requires : tie.Need-of-number-requires Inv-loop μ-loop
+of-number-requires c κs = tt
 
-mul-sum : tie.Need-mul-sum Inv-loop μ-loop
-mul-sum c = omega arith
+bit-at-requires : tie.Need-bit-at-requires Inv-loop μ-loop
+bit-at-requires c κs = omega arith
 
-shared-slice-read-sum : tie.Need-shared-slice-read-sum Inv-loop μ-loop
-shared-slice-read-sum c = omega arith
+mul-of-number-2 : tie.Need-mul-of-number-2 Inv-loop μ-loop
+mul-of-number-2 c = omega arith
+
+shared-slice-read-of-number : tie.Need-shared-slice-read-of-number Inv-loop μ-loop
+shared-slice-read-of-number c = omega arith
+
+of-number-requires-2 : tie.Need-of-number-requires-2 Inv-loop μ-loop
+of-number-requires-2 c κs = tt
+
+xor-where-requires : tie.Need-xor-where-requires Inv-loop μ-loop
+xor-where-requires c κs = tt
 
 add-a : tie.Need-add-a Inv-loop μ-loop
 add-a c = omega arith
@@ -43,18 +55,16 @@ loop-less c = omega arith
 
 loop-again : tie.Need-loop-again Inv-loop μ-loop
 loop-again c =
-    let l = c .before .before .before .loop in (
+    let q = c .before .before .before in
+    let l = q .before .before .before .before .loop in (
       omega arith,
-      ⊎-elim
-          (λ w. rw (w .2) (row-one _ _ _ (l .sum) (l .a) (l .inv .1) (w .0 .taken)))
-          (λ w. rw (w .1) (row-other _ _ _ (l .sum) (l .a) (l .inv .1) (w .0 .left)))
-          (c .if1 .came),
+      row-next _ _ _ _ (l .a) (l .inv .1) (q .before .of-number .ensures) (q .bit-at .ensures) (c .before .of-number2 .ensures) (c .xor-where .ensures),
     )
 
 returns : tie.Need-returns Inv-loop μ-loop
 returns c =
     let l = c .before .loop in
-    row-all _ _ _ (l .sum) (l .a) (l .inv .1) _ (l .inv .0) (c .loop-test .left)
+    row-all _ _ _ _ (l .a) (l .inv .1) _ (l .inv .0) (c .loop-test .left)
 
 pub row-word-spec : {M : Type 1} → statement M
 row-word-spec =
@@ -62,12 +72,16 @@ row-word-spec =
     (tie.spec
     Inv-loop
     μ-loop
+    zero-word-requires
     loop-holds
-    mul-if1
-    element-copy-out-if1
-    shr-if1
-    mul-sum
-    shared-slice-read-sum
+    mul-of-number
+    element-copy-out-of-number
+    of-number-requires
+    bit-at-requires
+    mul-of-number-2
+    shared-slice-read-of-number
+    of-number-requires-2
+    xor-where-requires
     add-a
     loop-less
     loop-again

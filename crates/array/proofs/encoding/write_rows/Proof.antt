@@ -24,6 +24,9 @@ add-end : tie.Need-add-end Inv-loop μ-loop
 add-end c =
     omega (arith, lining-room (c .before .loop .inv) (c .loop-test .taken), square-le _ (c .before .before .before .before .pre .2))
 
+cast-row-word : tie.Need-cast-row-word Inv-loop μ-loop
+cast-row-word c = omega (arith, c .before .before .before .before .pre .2)
+
 row-word-requires : tie.Need-row-word-requires Inv-loop μ-loop
 row-word-requires c κs =
     let p = c .before .before .before .before .pre in
@@ -40,7 +43,9 @@ part-write-row-end c =
     omega (arith, lining-room (c .before .before .loop .inv) (c .before .loop-test .taken))
 
 write-row-requires : tie.Need-write-row-requires Inv-loop μ-loop
-write-row-requires c κs = tt
+write-row-requires c κs =
+    let q = c .before .before .before in
+    omega (arith, lining-length (q .loop .inv) (c .before .before .loop-test .taken), q .before .before .before .pre .2)
 
 add-i : tie.Need-add-i Inv-loop μ-loop
 add-i c = omega arith
@@ -69,6 +74,7 @@ write-rows-spec =
     μ-loop
     loop-holds
     add-end
+    cast-row-word
     row-word-requires
     sub-write-row
     part-write-row-start
