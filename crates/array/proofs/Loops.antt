@@ -29,6 +29,15 @@ use Rattle.line.proofs.Bounds.{square-le, message-le}
 use Rattle.laws.proofs.DigitSums.{digits-length}
 use Rattle.laws.proofs.Linear.{to-last, digits-at}
 
+-- what holds of the first a entries of a list, and of the next one that is put, holds of one entry more
+put-next : (P : ℕ → ℕ → Type 0) (l : List ℕ) (a x : ℕ) → a < length l → ((b : ℕ) → b < a → P b (getD l b 0)) → P a x
+    → (b : ℕ) → b < a + 1 → P b (getD (set l a x) b 0)
+put-next P l a x h first next b q = pick (ℕ-discrete b a)
+  where
+    pick : Dec (b ≡ a) → P b (getD (set l a x) b 0)
+    pick (yes z) = rw (z, getD-set-same l a x 0 h) next
+    pick (no z) = rw (getD-set-other l a b x 0 z) (first b (omega (arith, z)))
+
 -- ---- the message rows, a row a turn
 
 pub record Encoding (d : Degree) (k : ℕ) (m ws₀ ws : List ℕ) (a at : ℕ) : Type 0 where
@@ -80,12 +89,8 @@ module _ {d : Degree} {k : ℕ} {m ws₀ ws : List ℕ} {a at : ℕ} (w : Encodi
       low = omega arith;
       place = omega (arith, w .place, suc-mul a k);
       long = length-set ws a x ∙ w .long;
-      words = λ b q. pick b (ℕ-discrete b a) q;
+      words = put-next (λ b y. PacksWord (size d) (encodeLine d (line k m b)) y) ws a x (encoding-word l) (w .words) (rw (f, ← encoding-part) e);
     }
-      where
-        pick : (b : ℕ) → Dec (b ≡ a) → b < a + 1 → PacksWord (size d) (encodeLine d (line k m b)) (getD (set ws a x) b 0)
-        pick b (yes z) q = rw (z, getD-set-same ws a x 0 (encoding-word l), f, ← encoding-part) e
-        pick b (no z) q = rw (getD-set-other ws a b x 0 z) (w .words b (omega (arith, z)))
 
 -- ---- a row of the array, a word a turn
 
@@ -123,11 +128,7 @@ writing-start word row = record { long = refl; cells = λ i h. absurd (not-suc-l
 
 module _ {word : ℕ} {row₀ row : List ℕ} {j : ℕ} (w : Writing word row₀ row j) where
   pub writing-next : j < length row → (x : ℕ) → x ≡ bitAt word j → Writing word row₀ (set row j x) (j + 1)
-  writing-next h x e = record { long = length-set row j x ∙ w .long; cells = λ i q. pick i (ℕ-discrete i j) q }
-    where
-      pick : (i : ℕ) → Dec (i ≡ j) → i < j + 1 → getD (set row j x) i 0 ≡ bitAt word i
-      pick i (yes z) q = rw (z, getD-set-same row j x 0 h) e
-      pick i (no z) q = getD-set-other row j i x 0 z ∙ w .cells i (omega (arith, z))
+  writing-next h x e = record { long = length-set row j x ∙ w .long; cells = put-next (λ i y. y ≡ bitAt word i) row j x h (w .cells) e }
 
   pub writing-end : length row ≤ j → row ≡ digits (length row₀) word
   writing-end h =
