@@ -14,7 +14,7 @@ use crate::plain::{Degree, UNSURE};
 use crate::pugdrel::{self, Refusal};
 use crate::random::Random;
 use crate::timing::default_plots;
-use tables::{count_plot, print_counts, print_rates, rate_plot};
+use tables::{count_plot, print_counts, print_rates, print_thresholds, rate_plot};
 
 const DEGREE: Degree = Degree::Six;
 
@@ -24,7 +24,7 @@ const RATE_ITERATIONS: u64 = 20;
 /// "20 half-iterations": with these the decodings are counted.
 const COUNT_ITERATIONS: u64 = 10;
 
-/// Thresholds of which the best is taken.
+/// Thresholds of which the best is taken, beside the one that is best for the capacity.
 const THRESHOLDS: [f64; 7] = [0.04, 0.08, 0.12, 0.16, 0.20, 0.24, 0.28];
 
 pub fn simulate(mut arguments: Arguments) -> Result<(), Failure> {
@@ -43,6 +43,12 @@ pub fn simulate(mut arguments: Arguments) -> Result<(), Failure> {
         return Err("there must be at least one array a point, and a step above 0".into());
     }
     fs::create_dir_all(&plots)?;
+    let run = format!(
+        "bench simulate --arrays {} --failures {} --seed {seed} --from {from} --to {to} --step {step} --probe {probe}",
+        extent.arrays, extent.failures
+    );
+    println!("From `{run}`.");
+    println!();
     let mut random = Random::new(seed);
 
     let best = best_threshold(probe, extent, &mut random)?;
@@ -61,11 +67,11 @@ pub fn simulate(mut arguments: Arguments) -> Result<(), Failure> {
     print_counts(&points, best);
     fs::write(
         plots.join("bit-error-rate.svg"),
-        rate_plot(&points, best).to_svg(),
+        rate_plot(&points, best, &run).to_svg(),
     )?;
     fs::write(
         plots.join("decodings.svg"),
-        count_plot(&points, best).to_svg(),
+        count_plot(&points, best, &run).to_svg(),
     )?;
     Ok(())
 }
@@ -127,26 +133,16 @@ impl Seen {
 /// The threshold of those tried with the lowest bit error rate at one strength of the noise.
 fn best_threshold(decibels: f64, extent: Extent, random: &mut Random) -> Result<f64, Failure> {
     eprintln!("the threshold, at Eb/N0 = {decibels:.2} dB");
-    let results = measure(decibels, &THRESHOLDS, extent, false, random)?;
-    println!(
-        "Eb/N0 = {decibels:.2} dB, {} arrays, L = {RATE_ITERATIONS}:",
-        results[0].arrays
-    );
-    println!();
-    println!("| T | received wrong | received unsure | bit error rate |");
-    println!("|---|---|---|---|");
-    for (threshold, seen) in THRESHOLDS.iter().zip(&results) {
-        println!(
-            "| {threshold:.2} | {:.2}% | {:.2}% | {:.2e} |",
-            100.0 * seen.received_wrong / seen.bits,
-            100.0 * seen.received_unsure / seen.bits,
-            seen.rate()
-        );
-    }
-    println!();
-    let tried = THRESHOLDS.iter().zip(&results);
+    let of_capacity = capacity::best_threshold(sent_decibels(decibels));
+    let mut thresholds = THRESHOLDS.to_vec();
+    thresholds.push(of_capacity);
+    thresholds.sort_by(f64::total_cmp);
+    let results = measure(decibels, &thresholds, extent, false, random)?;
+    let tried = thresholds.iter().zip(&results);
     let best = tried.min_by(|a, b| a.1.rate().total_cmp(&b.1.rate()));
-    Ok(best.map_or(0.0, |(&threshold, _)| threshold))
+    let best = best.map_or(0.0, |(&threshold, _)| threshold);
+    print_thresholds(decibels, &thresholds, &results, [best, of_capacity]);
+    Ok(best)
 }
 
 /// Sends arrays, and decodes what comes through with each threshold: the same noise for all of them.

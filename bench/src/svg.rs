@@ -1,13 +1,9 @@
 //! Plots as SVG text: two axes with ticks, lines with markers, and a legend.
 
-use std::fmt::Write;
+mod ruler;
 
-#[derive(Clone, Copy, Debug, PartialEq, Eq)]
-pub enum Scale {
-    Linear,
-    /// By powers of ten; points at 0 or below are left out.
-    Log,
-}
+pub use ruler::Scale;
+use ruler::{Ruler, Tick};
 
 pub struct Axis {
     pub label: String,
@@ -24,19 +20,35 @@ pub struct Plot {
     pub x: Axis,
     pub y: Axis,
     pub series: Vec<Series>,
+    /// What the legend says of a measured 0 where the vertical axis has no place for it: an arrow at the lower edge
+    /// stands for it then. Without this, it is left out.
+    pub zero: Option<String>,
+    /// The run that the plot comes from.
+    pub source: String,
 }
 
-const WIDTH: f64 = 820.0;
-const HEIGHT: f64 = 460.0;
+const HEIGHT: f64 = 480.0;
 const LEFT: f64 = 84.0;
 const RIGHT: f64 = 610.0;
 const TOP: f64 = 48.0;
 const BOTTOM: f64 = 400.0;
 
+/// From the frame to the texts of the legend, and what a character of them takes at most.
+const LEGEND: f64 = 52.0;
+const CHARACTER: f64 = 8.0;
+
+/// From one entry of the legend to the next.
+const LEGEND_STEP: f64 = 24.0;
+
 /// Colours that can be told apart by readers who do not see all of them.
 const COLOURS: [&str; 6] = [
     "#0072b2", "#d55e00", "#009e73", "#cc79a7", "#e69f00", "#56b4e9",
 ];
+
+/// Lines differ in more than colour, for print and for curves that lie on each other.
+const DASHES: [&str; 4] = ["none", "8 3", "3 2", "9 3 2 3"];
+
+const TEXT_COLOUR: &str = "#222222";
 
 impl Axis {
     pub fn linear(label: &str) -> Axis {
@@ -54,177 +66,151 @@ impl Axis {
     }
 }
 
-/// An axis with its range, laid out from one place on the page to another.
-struct Ruler {
-    scale: Scale,
-    low: f64,
-    high: f64,
-    from: f64,
-    to: f64,
-}
-
-impl Ruler {
-    /// A range of whole ticks around the values.
-    fn new(scale: Scale, values: impl Iterator<Item = f64>, from: f64, to: f64) -> Ruler {
-        let shown = values.filter(|&value| scale == Scale::Linear || value > 0.0);
-        let (low, high) = shown.fold((f64::INFINITY, f64::NEG_INFINITY), |(low, high), value| {
-            (low.min(value), high.max(value))
-        });
-        let (low, high) = if low <= high { (low, high) } else { (1.0, 1.0) };
-        let (low, high) = match scale {
-            Scale::Log => {
-                let (low, high) = (low.log10().floor(), high.log10().ceil());
-                (10f64.powf(low), 10f64.powf(high.max(low + 1.0)))
-            }
-            Scale::Linear => {
-                let high = if high > low { high } else { low + 1.0 };
-                let step = tick_step(low, high);
-                ((low / step).floor() * step, (high / step).ceil() * step)
-            }
-        };
-        Ruler {
-            scale,
-            low,
-            high,
-            from,
-            to,
-        }
-    }
-
-    fn place(&self, value: f64) -> f64 {
-        let part = match self.scale {
-            Scale::Linear => (value - self.low) / (self.high - self.low),
-            Scale::Log => (value / self.low).log10() / (self.high / self.low).log10(),
-        };
-        self.from + part * (self.to - self.from)
-    }
-
-    fn shows(&self, value: f64) -> bool {
-        self.scale == Scale::Linear || value > 0.0
-    }
-
-    /// Ticks with their labels; a tick without a label is a fine line of a log scale.
-    fn ticks(&self) -> Vec<(f64, Option<String>)> {
-        match self.scale {
-            Scale::Linear => {
-                let step = tick_step(self.low, self.high);
-                let decimals = (-step.log10().floor()).max(0.0) as usize;
-                let count = ((self.high - self.low) / step).round() as usize;
-                let tick = |at| {
-                    let value = self.low + at as f64 * step;
-                    (value, Some(format!("{value:.decimals$}")))
-                };
-                (0..=count).map(tick).collect()
-            }
-            Scale::Log => {
-                let decades = (self.high / self.low).log10().round() as i32;
-                let lowest = self.low.log10().round() as i32;
-                let mut ticks = Vec::new();
-                for power in lowest..=lowest + decades {
-                    let decade = 10f64.powi(power);
-                    ticks.push((decade, Some(power_label(power))));
-                    if power < lowest + decades {
-                        ticks.extend((2..10).map(|times| (f64::from(times) * decade, None)));
-                    }
-                }
-                ticks
-            }
-        }
-    }
-}
-
-/// 1, 2 or 5 times a power of ten, so that there are about six ticks.
-fn tick_step(low: f64, high: f64) -> f64 {
-    let rough = (high - low) / 6.0;
-    let power = 10f64.powf(rough.log10().floor());
-    let times = [1.0, 2.0, 5.0, 10.0];
-    let fits = times.into_iter().find(|times| times * power >= rough);
-    fits.unwrap_or(10.0) * power
-}
-
-fn power_label(power: i32) -> String {
-    if (0..=3).contains(&power) {
-        format!("{}", 10u32.pow(power as u32))
-    } else {
-        format!("1e{power}")
-    }
-}
-
 impl Plot {
     pub fn to_svg(&self) -> String {
         let points = || self.series.iter().flat_map(|series| &series.points);
         let x = Ruler::new(self.x.scale, points().map(|point| point.0), LEFT, RIGHT);
         let y = Ruler::new(self.y.scale, points().map(|point| point.1), BOTTOM, TOP);
-        let mut svg = String::new();
-        let mut line = |text: String| {
-            let _ = writeln!(svg, "{text}");
-        };
-        line(format!(
-            r#"<svg xmlns="http://www.w3.org/2000/svg" viewBox="0 0 {WIDTH} {HEIGHT}" width="{WIDTH}" height="{HEIGHT}" font-family="sans-serif" font-size="13">"#
-        ));
-        line(r##"<rect width="100%" height="100%" fill="#ffffff"/>"##.to_string());
-        line(label(
-            (LEFT + RIGHT) / 2.0,
-            26.0,
-            "middle",
-            &self.title,
-            r#" font-size="15""#,
-        ));
-        for (value, text) in x.ticks() {
-            let at = x.place(value);
-            line(grid_line((at, TOP), (at, BOTTOM), text.is_some()));
-            if let Some(text) = text {
-                line(label(at, BOTTOM + 18.0, "middle", &text, ""));
-            }
-        }
-        for (value, text) in y.ticks() {
-            let at = y.place(value);
-            line(grid_line((LEFT, at), (RIGHT, at), text.is_some()));
-            if let Some(text) = text {
-                line(label(LEFT - 8.0, at + 4.5, "end", &text, ""));
-            }
-        }
-        line(format!(
-            r##"<rect x="{LEFT}" y="{TOP}" width="{:.1}" height="{:.1}" fill="none" stroke="#444444"/>"##,
-            RIGHT - LEFT,
-            BOTTOM - TOP
-        ));
-        let middle = (TOP + BOTTOM) / 2.0;
-        let turned = format!(r#" transform="rotate(-90 24 {middle})""#);
-        line(label(
-            (LEFT + RIGHT) / 2.0,
-            BOTTOM + 44.0,
-            "middle",
-            &self.x.label,
-            "",
-        ));
-        line(label(24.0, middle, "middle", &self.y.label, &turned));
+        let width = RIGHT + LEGEND + CHARACTER * self.longest_legend() as f64;
+        let mut lines = vec![
+            format!(
+                r#"<svg xmlns="http://www.w3.org/2000/svg" viewBox="0 0 {width} {HEIGHT}" width="{width}" height="{HEIGHT}" font-family="sans-serif" font-size="13" role="img">"#
+            ),
+            format!("<title>{}</title>", escaped(&self.title)),
+            format!("<desc>{}</desc>", escaped(&self.description())),
+            r##"<rect width="100%" height="100%" fill="#ffffff"/>"##.to_string(),
+        ];
+        lines.extend(grid(&x, &y));
+        lines.extend(self.texts());
         for (number, series) in self.series.iter().enumerate() {
             let shown = series.points.iter();
-            let shown = shown.filter(|point| x.shows(point.0) && y.shows(point.1));
+            let shown = shown.filter(|point| x.scale.shows(point.0) && y.scale.shows(point.1));
             let places: Vec<(f64, f64)> = shown
                 .map(|point| (x.place(point.0), y.place(point.1)))
                 .collect();
-            line(curve(&places, number));
-            for &place in &places {
-                line(marker(place, number));
-            }
-            let legend = TOP + 14.0 + 24.0 * number as f64;
-            line(curve(
-                &[(RIGHT + 16.0, legend), (RIGHT + 44.0, legend)],
-                number,
-            ));
-            line(marker((RIGHT + 30.0, legend), number));
-            line(label(RIGHT + 52.0, legend + 4.5, "start", &series.name, ""));
+            lines.push(curve(&places, number));
+            lines.extend(places.iter().map(|&place| marker(place, number)));
         }
-        line("</svg>".to_string());
-        svg
+        lines.extend(self.zero_arrows(&x));
+        lines.extend(self.legend());
+        lines.push("</svg>".to_string());
+        lines.join("\n") + "\n"
     }
+
+    /// What the plot shows, in words.
+    fn description(&self) -> String {
+        let names: Vec<&str> = self
+            .series
+            .iter()
+            .map(|series| series.name.as_str())
+            .collect();
+        format!(
+            "{} against {}: {}. From {}.",
+            self.y.label,
+            self.x.label,
+            names.join("; "),
+            self.source
+        )
+    }
+
+    /// The title, the labels of the axes, and the run.
+    fn texts(&self) -> [String; 4] {
+        let centre = (LEFT + RIGHT) / 2.0;
+        let middle = (TOP + BOTTOM) / 2.0;
+        let turned = format!(r#" transform="rotate(-90 24 {middle})""#);
+        let small = r#" font-size="11""#;
+        [
+            label(centre, 26.0, "middle", &self.title, r#" font-size="15""#),
+            label(centre, BOTTOM + 44.0, "middle", &self.x.label, ""),
+            label(24.0, middle, "middle", &self.y.label, &turned),
+            label(RIGHT, BOTTOM + 68.0, "end", &self.source, small),
+        ]
+    }
+
+    /// Is this a measured 0 that the vertical axis has no place for?
+    fn is_zero(&self, value: f64) -> bool {
+        value == 0.0 && !self.y.scale.shows(value)
+    }
+
+    fn has_zeros(&self) -> bool {
+        let mut points = self.series.iter().flat_map(|series| &series.points);
+        points.any(|point| self.is_zero(point.1))
+    }
+
+    /// The text for the arrows, if there are any.
+    fn zero_text(&self) -> Option<&str> {
+        self.zero.as_deref().filter(|_| self.has_zeros())
+    }
+
+    /// Arrows for zeros at the lower edge; those of one series above those of another.
+    fn zero_arrows(&self, x: &Ruler) -> Vec<String> {
+        if self.zero_text().is_none() {
+            return Vec::new();
+        }
+        let mut arrows = Vec::new();
+        let mut tip = BOTTOM - 4.0;
+        for (number, series) in self.series.iter().enumerate() {
+            let zeros = series.points.iter().filter(|point| self.is_zero(point.1));
+            let places: Vec<f64> = zeros.map(|point| x.place(point.0)).collect();
+            let drawn = places.iter().map(|&at| arrow((at, tip), colour(number)));
+            arrows.extend(drawn);
+            if !places.is_empty() {
+                tip -= 18.0;
+            }
+        }
+        arrows
+    }
+
+    fn legend(&self) -> Vec<String> {
+        let height = |entry: usize| TOP + 14.0 + LEGEND_STEP * entry as f64;
+        let text =
+            |entry, text: &str| label(RIGHT + LEGEND, height(entry) + 4.5, "start", text, "");
+        let mut lines = Vec::new();
+        for (number, series) in self.series.iter().enumerate() {
+            let at = height(number);
+            lines.push(curve(&[(RIGHT + 14.0, at), (RIGHT + 46.0, at)], number));
+            lines.push(marker((RIGHT + 30.0, at), number));
+            lines.push(text(number, &series.name));
+        }
+        if let Some(zero) = self.zero_text() {
+            let entry = self.series.len();
+            lines.push(arrow((RIGHT + 30.0, height(entry) + 6.0), TEXT_COLOUR));
+            lines.push(text(entry, zero));
+        }
+        lines
+    }
+
+    fn longest_legend(&self) -> usize {
+        let names = self.series.iter().map(|series| series.name.as_str());
+        let texts = names.chain(self.zero_text());
+        texts.map(|text| text.chars().count()).max().unwrap_or(0)
+    }
+}
+
+/// The ticks with their labels, and the frame.
+fn grid(x: &Ruler, y: &Ruler) -> Vec<String> {
+    let mut lines = Vec::new();
+    for Tick { place, label: text } in x.ticks() {
+        lines.push(grid_line((place, TOP), (place, BOTTOM), text.is_some()));
+        let written = text.map(|text| label(place, BOTTOM + 18.0, "middle", &text, ""));
+        lines.extend(written);
+    }
+    for Tick { place, label: text } in y.ticks() {
+        lines.push(grid_line((LEFT, place), (RIGHT, place), text.is_some()));
+        let written = text.map(|text| label(LEFT - 8.0, place + 4.5, "end", &text, ""));
+        lines.extend(written);
+    }
+    lines.push(format!(
+        r##"<rect x="{LEFT}" y="{TOP}" width="{:.1}" height="{:.1}" fill="none" stroke="#444444"/>"##,
+        RIGHT - LEFT,
+        BOTTOM - TOP
+    ));
+    lines
 }
 
 fn label(x: f64, y: f64, anchor: &str, text: &str, more: &str) -> String {
     format!(
-        r##"<text x="{x:.1}" y="{y:.1}" text-anchor="{anchor}" fill="#222222"{more}>{}</text>"##,
+        r##"<text x="{x:.1}" y="{y:.1}" text-anchor="{anchor}" fill="{TEXT_COLOUR}"{more}>{}</text>"##,
         escaped(text)
     )
 }
@@ -243,17 +229,18 @@ fn curve(places: &[(f64, f64)], number: usize) -> String {
         .map(|(x, y)| format!("{x:.1},{y:.1}"))
         .collect();
     format!(
-        r#"<polyline points="{}" fill="none" stroke="{}" stroke-width="1.8"/>"#,
+        r#"<polyline points="{}" fill="none" stroke="{}" stroke-width="1.8" stroke-dasharray="{}"/>"#,
         points.join(" "),
-        colour(number)
+        colour(number),
+        DASHES[number % DASHES.len()]
     )
 }
 
-/// Shapes differ too, for print without colour.
+/// Shapes differ too, for print without colour; the first is the largest, to be seen behind another on the same place.
 fn marker((x, y): (f64, f64), number: usize) -> String {
     let fill = colour(number);
     match number % 4 {
-        0 => format!(r#"<circle cx="{x:.1}" cy="{y:.1}" r="3.6" fill="{fill}"/>"#),
+        0 => format!(r#"<circle cx="{x:.1}" cy="{y:.1}" r="4.6" fill="{fill}"/>"#),
         1 => format!(
             r#"<rect x="{:.1}" y="{:.1}" width="6.8" height="6.8" fill="{fill}"/>"#,
             x - 3.4,
@@ -270,11 +257,22 @@ fn marker((x, y): (f64, f64), number: usize) -> String {
     }
 }
 
+/// An arrow that points down to a place.
+fn arrow((x, y): (f64, f64), colour: &str) -> String {
+    format!(
+        r#"<path d="M{x:.1} {:.1}v9" stroke="{colour}" stroke-width="1.8"/><path d="M{:.1} {:.1}h8l-4 6z" fill="{colour}"/>"#,
+        y - 13.0,
+        x - 4.0,
+        y - 6.0
+    )
+}
+
 fn colour(number: usize) -> &'static str {
     COLOURS[number % COLOURS.len()]
 }
 
-fn escaped(text: &str) -> String {
+/// Text that holds no mark-up.
+pub fn escaped(text: &str) -> String {
     text.replace('&', "&amp;")
         .replace('<', "&lt;")
         .replace('>', "&gt;")
@@ -284,53 +282,57 @@ fn escaped(text: &str) -> String {
 mod tests {
     use super::*;
 
-    fn labels(ruler: &Ruler) -> Vec<String> {
-        ruler
-            .ticks()
-            .into_iter()
-            .filter_map(|tick| tick.1)
-            .collect()
-    }
-
-    #[test]
-    fn linear_ticks_are_round_and_hold_all_values() {
-        let ruler = Ruler::new(Scale::Linear, [0.3, 2.9].into_iter(), 0.0, 100.0);
-        assert_eq!(
-            labels(&ruler),
-            ["0.0", "0.5", "1.0", "1.5", "2.0", "2.5", "3.0"]
-        );
-        assert!((ruler.place(1.5) - 50.0).abs() < 1e-9);
-    }
-
-    #[test]
-    fn log_ticks_are_whole_decades() {
-        let ruler = Ruler::new(Scale::Log, [0.0, 0.004, 20.0].into_iter(), 0.0, 100.0);
-        assert_eq!(labels(&ruler), ["1e-3", "1e-2", "1e-1", "1", "10", "100"]);
-        assert!((ruler.place(0.1) - 40.0).abs() < 1e-9);
-        assert!(!ruler.shows(0.0));
+    fn plot(scale: Scale, points: &[(f64, f64)], zero: Option<&str>) -> Plot {
+        let axis = || Axis {
+            label: "a < b".to_string(),
+            scale,
+        };
+        Plot {
+            title: "none".to_string(),
+            x: axis(),
+            y: axis(),
+            series: vec![Series {
+                name: "s & t".to_string(),
+                points: points.to_vec(),
+            }],
+            zero: zero.map(String::from),
+            source: "bench".to_string(),
+        }
     }
 
     #[test]
     fn a_plot_of_one_point_or_none_is_still_drawn() {
         for points in [vec![], vec![(1.0, 1.0)]] {
             for scale in [Scale::Linear, Scale::Log] {
-                let axis = || Axis {
-                    label: "a < b".to_string(),
-                    scale,
-                };
-                let plot = Plot {
-                    title: "none".to_string(),
-                    x: axis(),
-                    y: axis(),
-                    series: vec![Series {
-                        name: "s & t".to_string(),
-                        points: points.clone(),
-                    }],
-                };
-                let svg = plot.to_svg();
+                let svg = plot(scale, &points, None).to_svg();
                 assert!(svg.contains("a &lt; b") && svg.contains("s &amp; t"));
                 assert!(!svg.contains("NaN") && !svg.contains("inf"));
             }
         }
+    }
+
+    #[test]
+    fn a_zero_on_a_log_axis_is_an_arrow_that_the_legend_explains() {
+        let points = [(1.0, 0.1), (2.0, 0.0), (3.0, 0.0)];
+        let arrows = |plot: &Plot| plot.to_svg().matches("v9").count();
+        let told = plot(Scale::Log, &points, Some("none in 7 bits"));
+        assert_eq!(arrows(&told), 2 + 1);
+        assert!(told.to_svg().contains("none in 7 bits</text>"));
+        // Without a text it is left out; without a zero, or with a place for it, the legend says nothing of it.
+        assert_eq!(arrows(&plot(Scale::Log, &points, None)), 0);
+        for other in [
+            plot(Scale::Log, &points[..1], Some("none in 7 bits")),
+            plot(Scale::Linear, &points, Some("none in 7 bits")),
+        ] {
+            assert_eq!(arrows(&other), 0);
+            assert!(!other.to_svg().contains("none in"));
+        }
+    }
+
+    #[test]
+    fn the_page_is_as_wide_as_the_legend() {
+        let mut wide = plot(Scale::Linear, &[(1.0, 1.0)], None);
+        wide.series[0].name = "n".repeat(50);
+        assert!(wide.to_svg().contains(r#" width="1062" "#));
     }
 }

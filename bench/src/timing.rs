@@ -34,6 +34,9 @@ pub fn timing(mut arguments: Arguments) -> Result<(), Failure> {
     let seed: u64 = arguments.option("seed", 1)?;
     let plots: PathBuf = arguments.option("plots", default_plots())?;
     arguments.end()?;
+    let run = format!("bench timing --rounds {rounds} --seed {seed}");
+    println!("From `{run}`.");
+    println!();
     let stopwatch = Stopwatch::new(rounds);
     let mut random = Random::new(seed);
     print_settings(&stopwatch, &mut random);
@@ -41,7 +44,7 @@ pub fn timing(mut arguments: Arguments) -> Result<(), Failure> {
     for growth in growths() {
         let curves = growth.curves(&stopwatch, &mut random);
         growth.print(&curves);
-        fs::write(plots.join(growth.file), growth.plot(&curves).to_svg())?;
+        fs::write(plots.join(growth.file), growth.plot(&curves, &run).to_svg())?;
     }
     Ok(())
 }
@@ -178,7 +181,7 @@ impl Growth {
         println!();
     }
 
-    fn plot(&self, curves: &[Vec<f64>]) -> Plot {
+    fn plot(&self, curves: &[Vec<f64>], run: &str) -> Plot {
         let series = self.makers.iter().zip(curves).map(|(maker, curve)| Series {
             name: maker.name().to_string(),
             points: self
@@ -196,6 +199,8 @@ impl Growth {
                 scale: self.scale,
             },
             series: series.collect(),
+            zero: None,
+            source: run.to_string(),
         }
     }
 }

@@ -5,15 +5,30 @@
 pub fn best_gain(rate: f64) -> f64 {
     let hard = where_reached(rate, |decibels| capacity(decibels, 0.0));
     let marked = where_reached(rate, |decibels| {
-        let thresholds = (0..100).map(|step| f64::from(step) / 100.0);
-        let capacities = thresholds.map(|threshold| capacity(decibels, threshold));
-        capacities.fold(0.0, f64::max)
+        capacity(decibels, best_threshold(decibels))
     });
     hard - marked
 }
 
+/// The threshold T at which the capacity at this Es/N0 in decibels is greatest, between 0 and 1.
+///
+/// The capacity rises with T up to there and falls after it, so that of two thresholds the one with the lower capacity
+/// bounds the best one.
+pub fn best_threshold(decibels: f64) -> f64 {
+    let (mut low, mut high) = (0.0, 1.0);
+    for _ in 0..40 {
+        let third = (high - low) / 3.0;
+        if capacity(decibels, low + third) < capacity(decibels, high - third) {
+            low += third;
+        } else {
+            high -= third;
+        }
+    }
+    (low + high) / 2.0
+}
+
 /// The capacity at this Es/N0 in decibels, in bits for each bit sent, if values between -T and T are marked.
-fn capacity(decibels: f64, threshold: f64) -> f64 {
+pub fn capacity(decibels: f64, threshold: f64) -> f64 {
     let scale = (2.0 * 10f64.powf(decibels / 10.0)).sqrt();
     let wrong = normal_tail(scale * (threshold + 1.0));
     let right = normal_tail(scale * (threshold - 1.0));
@@ -86,5 +101,21 @@ mod tests {
             let gain = best_gain(rate);
             assert!(gain > 0.3 && gain < 1.2, "{gain}");
         }
+    }
+
+    #[test]
+    fn the_best_threshold_is_the_best_of_all_on_a_fine_grid() {
+        for decibels in [-3.0, 0.0, 0.78, 1.28, 2.28, 5.0] {
+            let best = best_threshold(decibels);
+            let grid = (0..=200).map(|step| f64::from(step) / 200.0);
+            let greatest = grid
+                .map(|threshold| capacity(decibels, threshold))
+                .fold(0.0, f64::max);
+            let found = capacity(decibels, best);
+            assert!(found >= greatest && found < greatest + 1e-4, "{decibels}");
+            assert!(found > capacity(decibels, 0.0), "{decibels}");
+        }
+        // The weaker the noise, the fewer values need the mark.
+        assert!(best_threshold(2.0) < best_threshold(1.0));
     }
 }

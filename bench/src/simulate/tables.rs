@@ -1,6 +1,6 @@
 //! What the simulation saw, as tables and plots.
 
-use super::capacity::best_gain;
+use super::capacity::{best_gain, capacity};
 use super::{COUNT_ITERATIONS, Point, RATE_ITERATIONS, Seen, code_rate, sent_decibels};
 use crate::svg::{Axis, Plot, Series};
 
@@ -19,28 +19,98 @@ fn crossing(points: &[Point], which: usize) -> Option<f64> {
     })
 }
 
-pub fn print_rates(points: &[Point], best: f64) {
-    println!("Bits wrong after decoding with L = {RATE_ITERATIONS}, T = 0 and T = {best:.2}:");
+/// A bit error rate; a measured 0 says no more than that none of so many bits was wrong.
+fn rate_text(seen: &Seen) -> String {
+    if seen.rate() > 0.0 {
+        format!("{:.2e}", seen.rate())
+    } else {
+        none_text(seen)
+    }
+}
+
+fn none_text(seen: &Seen) -> String {
+    format!("none in {} bits", seen.bits)
+}
+
+/// `none of 7`, or `2 of 7`.
+fn part_text(part: f64, whole: f64) -> String {
+    if part > 0.0 {
+        format!("{part} of {whole}")
+    } else {
+        format!("none of {whole}")
+    }
+}
+
+/// What the thresholds that were tried are worth; the two best are that of the decoder and that of the capacity.
+pub fn print_thresholds(
+    decibels: f64,
+    thresholds: &[f64],
+    results: &[Seen],
+    [best, of_capacity]: [f64; 2],
+) {
+    let bits = |threshold| capacity(sent_decibels(decibels), threshold);
+    println!(
+        "Eb/N0 = {decibels:.2} dB, {} arrays, L = {RATE_ITERATIONS}:",
+        results[0].arrays
+    );
+    println!();
+    println!("| T | received wrong | received unsure | bit error rate | capacity |");
+    println!("|---|---|---|---|---|");
+    for (&threshold, seen) in thresholds.iter().zip(results) {
+        println!(
+            "| {} | {:.2}% | {:.2}% | {} | {:.4} |",
+            threshold_text(threshold),
+            100.0 * seen.received_wrong / seen.bits,
+            100.0 * seen.received_unsure / seen.bits,
+            rate_text(seen),
+            bits(threshold)
+        );
+    }
     println!();
     println!(
-        "| Eb/N0, dB | Es/N0, dB | arrays | received wrong, T = 0 | bit error rate, T = 0 | bit error rate, T = {best:.2} \
-         | closed, T = 0 | closed, T = {best:.2} | closed and wrong, both |"
+        "Of these, T = {} is best for the decoder. The capacity of the channel, in bits for each bit sent, is greatest at \
+         T = {}: {:.4} there, {:.4} at T = {} and {:.4} without the mark.",
+        threshold_text(best),
+        threshold_text(of_capacity),
+        bits(of_capacity),
+        bits(best),
+        threshold_text(best),
+        bits(0.0)
+    );
+    println!();
+}
+
+/// With as many digits as there are, three at most.
+fn threshold_text(threshold: f64) -> String {
+    let text = format!("{threshold:.3}");
+    text.strip_suffix('0').unwrap_or(&text).to_string()
+}
+
+pub fn print_rates(points: &[Point], best: f64) {
+    let best = threshold_text(best);
+    println!("Bits wrong after decoding with L = {RATE_ITERATIONS}, T = 0 and T = {best}:");
+    println!();
+    println!(
+        "| Eb/N0, dB | Es/N0, dB | arrays | received wrong, T = 0 | bit error rate, T = 0 | bit error rate, T = {best} \
+         | closed, T = 0 | closed, T = {best} | closed and wrong, both |"
     );
     println!("|{}", "---|".repeat(9));
     for point in points {
         let [hard, marked] = [&point.results[0], &point.results[1]];
         println!(
-            "| {:.3} | {:.2} | {} | {:.2}% | {:.2e} | {:.2e} | {:.1}% | {:.1}% | {} of {} |",
+            "| {:.3} | {:.2} | {} | {:.2}% | {} | {} | {} | {} | {} |",
             point.decibels,
             sent_decibels(point.decibels),
             hard.arrays,
             100.0 * hard.received_wrong / hard.bits,
-            hard.rate(),
-            marked.rate(),
-            100.0 * hard.closed / hard.arrays,
-            100.0 * marked.closed / marked.arrays,
-            hard.false_closed + marked.false_closed,
-            hard.closed + marked.closed
+            rate_text(hard),
+            rate_text(marked),
+            part_text(hard.closed, hard.arrays),
+            part_text(marked.closed, marked.arrays),
+            part_text(
+                hard.false_closed + marked.false_closed,
+                hard.closed + marked.closed
+            )
         );
     }
     println!();
@@ -56,10 +126,11 @@ pub fn print_rates(points: &[Point], best: f64) {
 }
 
 pub fn print_counts(points: &[Point], best: f64) {
+    let best = threshold_text(best);
     println!("Decodings for each row or column in {COUNT_ITERATIONS} iterations:");
     println!();
     println!(
-        "| Eb/N0, dB | all, T = 0 | all, T = {best:.2} | to the first closed, T = 0 | to the first closed, T = {best:.2} |"
+        "| Eb/N0, dB | all, T = 0 | all, T = {best} | to the first closed, T = 0 | to the first closed, T = {best} |"
     );
     println!("|---|---|---|---|---|");
     for point in points {
@@ -78,7 +149,8 @@ pub fn print_counts(points: &[Point], best: f64) {
     println!();
 }
 
-pub fn rate_plot(points: &[Point], best: f64) -> Plot {
+pub fn rate_plot(points: &[Point], best: f64, run: &str) -> Plot {
+    let best = threshold_text(best);
     let curve = |name: String, value: &dyn Fn(&Point) -> f64| Series {
         name,
         points: points
@@ -97,14 +169,26 @@ pub fn rate_plot(points: &[Point], best: f64) -> Plot {
             curve("decoded, T = 0".to_string(), &|point| {
                 point.results[0].rate()
             }),
-            curve(format!("decoded, T = {best:.2}"), &|point| {
+            curve(format!("decoded, T = {best}"), &|point| {
                 point.results[1].rate()
             }),
         ],
+        zero: none_legend(points),
+        source: run.to_string(),
     }
 }
 
-pub fn count_plot(points: &[Point], best: f64) -> Plot {
+/// What the arrows of the plot stand for. Points without a wrong bit have run for as many arrays as are allowed, all of
+/// them for the same number.
+fn none_legend(points: &[Point]) -> Option<String> {
+    let results = points.iter().flat_map(|point| &point.results);
+    let without = results.filter(|seen| seen.rate() == 0.0);
+    let shortest = without.min_by(|a, b| a.bits.total_cmp(&b.bits));
+    shortest.map(none_text)
+}
+
+pub fn count_plot(points: &[Point], best: f64, run: &str) -> Plot {
+    let best = threshold_text(best);
     let curve = |name: String, which: usize, sum: fn(&Seen) -> f64| Series {
         name,
         points: points
@@ -120,17 +204,19 @@ pub fn count_plot(points: &[Point], best: f64) -> Plot {
             "Decodings for each row or column, 64 by 64, at most {COUNT_ITERATIONS} iterations"
         ),
         x: Axis::linear("Eb/N0, dB"),
-        y: Axis::log("decodings"),
+        y: Axis::linear("decodings"),
         series: vec![
             curve("all, T = 0".to_string(), 0, |seen| seen.decodings),
-            curve(format!("all, T = {best:.2}"), 1, |seen| seen.decodings),
+            curve(format!("all, T = {best}"), 1, |seen| seen.decodings),
             curve("to closed, T = 0".to_string(), 0, |seen| {
                 seen.decodings_to_closed
             }),
-            curve(format!("to closed, T = {best:.2}"), 1, |seen| {
+            curve(format!("to closed, T = {best}"), 1, |seen| {
                 seen.decodings_to_closed
             }),
         ],
+        zero: None,
+        source: run.to_string(),
     }
 }
 
@@ -138,18 +224,49 @@ pub fn count_plot(points: &[Point], best: f64) -> Plot {
 mod tests {
     use super::*;
 
+    fn seen(wrong: f64) -> Seen {
+        Seen {
+            bits: 1e6,
+            wrong,
+            ..Seen::default()
+        }
+    }
+
+    fn point(decibels: f64, wrong: &[f64]) -> Point {
+        Point {
+            decibels,
+            results: wrong.iter().map(|&wrong| seen(wrong)).collect(),
+        }
+    }
+
     #[test]
     fn the_crossing_is_on_the_line_between_two_points() {
-        let point = |decibels, wrong| Point {
-            decibels,
-            results: vec![Seen {
-                bits: 1e6,
-                wrong,
-                ..Seen::default()
-            }],
-        };
-        let points = [point(4.0, 1e4), point(4.5, 1e3), point(5.0, 10.0)];
+        let points = [point(4.0, &[1e4]), point(4.5, &[1e3]), point(5.0, &[10.0])];
         let crossing = crossing(&points, 0).unwrap();
         assert!((crossing - 4.75).abs() < 1e-9);
+    }
+
+    #[test]
+    fn a_measured_zero_is_none_in_so_many_bits() {
+        assert_eq!(rate_text(&seen(0.0)), "none in 1000000 bits");
+        assert_eq!(rate_text(&seen(125.0)), "1.25e-4");
+        assert_eq!(part_text(0.0, 5.0), "none of 5");
+        assert_eq!(part_text(3.0, 5.0), "3 of 5");
+    }
+
+    #[test]
+    fn thresholds_have_two_or_three_digits() {
+        assert_eq!(threshold_text(0.12), "0.12");
+        assert_eq!(threshold_text(0.2937), "0.294");
+        assert_eq!(threshold_text(0.2), "0.20");
+    }
+
+    #[test]
+    fn the_plot_of_rates_explains_its_arrows() {
+        let some = [point(4.0, &[1e4, 1e3]), point(4.5, &[1e3, 10.0])];
+        assert!(!rate_plot(&some, 0.12, "a run").to_svg().contains("none in"));
+        let none = [point(4.0, &[1e4, 1e3]), point(4.5, &[1e3, 0.0])];
+        let svg = rate_plot(&none, 0.12, "a run").to_svg();
+        assert!(svg.contains("none in 1000000 bits</text>") && svg.contains("a run</text>"));
     }
 }
