@@ -23,7 +23,7 @@ pub fn sent(code: &Code, random: &mut Random) -> Vec<u8> {
 
 /// The kinds of damage to an array.
 #[derive(Clone, Copy, Debug)]
-enum Damage {
+pub enum Damage {
     None,
     FewWrong,
     ManyWrong,
@@ -51,52 +51,82 @@ enum Damage {
     KnownNoise,
 }
 
-const DAMAGES: [Damage; 16] = [
-    Damage::None,
-    Damage::FewWrong,
-    Damage::ManyWrong,
-    Damage::FewUnsure,
-    Damage::ManyUnsure,
-    Damage::AllUnsure,
-    Damage::Mixed,
-    Damage::CrowdedRows,
-    Damage::CrowdedColumns,
-    Damage::WithinCondition,
-    Damage::AroundCondition,
-    Damage::BetweenCodewords,
-    Damage::LostLines,
-    Damage::Blob,
-    Damage::Noise,
-    Damage::KnownNoise,
-];
-
 /// A received array with a random kind of damage.
 pub fn received(code: &Code, random: &mut Random) -> Vec<u8> {
     let sent = sent(code, random);
-    let n = code.n();
-    let all = n * n;
-    match random.pick(&DAMAGES) {
-        Damage::None => sent,
-        Damage::FewWrong => hit(&sent, random.between(1, n / 2), 0, random),
-        Damage::ManyWrong => hit(&sent, random.between(n, 6 * n), 0, random),
-        Damage::FewUnsure => hit(&sent, 0, random.between(1, n), random),
-        Damage::ManyUnsure => hit(&sent, 0, random.between(2 * n, all), random),
-        Damage::AllUnsure => vec![UNSURE; all],
-        Damage::Mixed => hit(&sent, random.below(3 * n), random.below(6 * n), random),
-        Damage::CrowdedRows => crowded(sent, n, random),
-        Damage::CrowdedColumns => transposed(&crowded(transposed(&sent, n), n, random), n),
-        Damage::WithinCondition => within_condition(&sent, n, random),
-        Damage::AroundCondition => by_rows(&sent, n, 3, random),
-        Damage::BetweenCodewords => {
-            let rows = sent.chunks(n);
-            rows.flat_map(|row| between(code, row, random)).collect()
+    let damage = random.pick(&Damage::ALL);
+    damage.done_to(sent, code, random)
+}
+
+impl Damage {
+    pub const ALL: [Damage; 16] = [
+        Damage::None,
+        Damage::FewWrong,
+        Damage::ManyWrong,
+        Damage::FewUnsure,
+        Damage::ManyUnsure,
+        Damage::AllUnsure,
+        Damage::Mixed,
+        Damage::CrowdedRows,
+        Damage::CrowdedColumns,
+        Damage::WithinCondition,
+        Damage::AroundCondition,
+        Damage::BetweenCodewords,
+        Damage::LostLines,
+        Damage::Blob,
+        Damage::Noise,
+        Damage::KnownNoise,
+    ];
+
+    /// What it is called in a table.
+    pub fn name(self) -> &'static str {
+        match self {
+            Damage::None => "no damage",
+            Damage::FewWrong => "few wrong",
+            Damage::ManyWrong => "many wrong",
+            Damage::FewUnsure => "few unsure",
+            Damage::ManyUnsure => "many unsure",
+            Damage::AllUnsure => "all unsure",
+            Damage::Mixed => "some wrong and unsure",
+            Damage::CrowdedRows => "4 to 7 unsure in every row",
+            Damage::CrowdedColumns => "4 to 7 unsure in every column",
+            Damage::WithinCondition => "rows within the condition",
+            Damage::AroundCondition => "rows around the condition",
+            Damage::BetweenCodewords => "rows between two codewords",
+            Damage::LostLines => "lost lines",
+            Damage::Blob => "a block of wrong and unsure",
+            Damage::Noise => "any cells",
+            Damage::KnownNoise => "any bits, some unsure",
         }
-        Damage::LostLines => lost_lines(sent, n, random),
-        Damage::Blob => blob(sent, n, random),
-        Damage::Noise => (0..all).map(|_| random.below(3) as u8).collect(),
-        Damage::KnownNoise => {
-            let cells = random.bits(all);
-            hit(&cells, 0, random.below(4 * n), random)
+    }
+
+    /// A sent array after this damage.
+    pub fn done_to(self, sent: Vec<u8>, code: &Code, random: &mut Random) -> Vec<u8> {
+        let n = code.n();
+        let all = n * n;
+        match self {
+            Damage::None => sent,
+            Damage::FewWrong => hit(&sent, random.between(1, n / 2), 0, random),
+            Damage::ManyWrong => hit(&sent, random.between(n, 6 * n), 0, random),
+            Damage::FewUnsure => hit(&sent, 0, random.between(1, n), random),
+            Damage::ManyUnsure => hit(&sent, 0, random.between(2 * n, all), random),
+            Damage::AllUnsure => vec![UNSURE; all],
+            Damage::Mixed => hit(&sent, random.below(3 * n), random.below(6 * n), random),
+            Damage::CrowdedRows => crowded(sent, n, random),
+            Damage::CrowdedColumns => transposed(&crowded(transposed(&sent, n), n, random), n),
+            Damage::WithinCondition => within_condition(&sent, n, random),
+            Damage::AroundCondition => by_rows(&sent, n, 3, random),
+            Damage::BetweenCodewords => {
+                let rows = sent.chunks(n);
+                rows.flat_map(|row| between(code, row, random)).collect()
+            }
+            Damage::LostLines => lost_lines(sent, n, random),
+            Damage::Blob => blob(sent, n, random),
+            Damage::Noise => (0..all).map(|_| random.below(3) as u8).collect(),
+            Damage::KnownNoise => {
+                let cells = random.bits(all);
+                hit(&cells, 0, random.below(4 * n), random)
+            }
         }
     }
 }

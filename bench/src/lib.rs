@@ -2,7 +2,7 @@
 //!
 //! - [`plain`] is document 01 in the plainest form; [`fast`] is a decoder for speed, checked against it.
 //! - [`pugdrel`] calls the library.
-//! - [`conformance`], [`malformed`], [`timing`] and [`simulate`] have the commands of the program `bench`.
+//! - [`conformance`], [`malformed`], [`timing`], [`times`], [`simulate`] and [`picture`] have the commands of the program `bench`.
 
 #![deny(unsafe_code)]
 
@@ -12,11 +12,14 @@ mod calls;
 pub mod conformance;
 mod damage;
 pub mod fast;
+mod machine;
 pub mod malformed;
+pub mod picture;
 pub mod plain;
 #[allow(unsafe_code)]
 pub mod pugdrel;
 mod random;
 pub mod simulate;
 mod svg;
+pub mod times;
 pub mod timing;

@@ -5,7 +5,7 @@
 use std::process::ExitCode;
 
 use pugdrel_bench::arguments::{Arguments, Failure};
-use pugdrel_bench::{conformance, malformed, simulate, timing};
+use pugdrel_bench::{conformance, malformed, picture, simulate, times, timing};
 
 const USAGE: &str = "\
 bench COMMAND
@@ -15,8 +15,11 @@ bench COMMAND
   malformed PATH [--seed S]            the program 'sheet' at PATH on good and broken inputs
   timing [--rounds R] [--seed S] [--plots DIR]
                                        the library beside the implementations in Rust
+  times [--arrays N] [--rounds R] [--seed S]
+                                       microseconds of one decoding on this machine
   simulate [--arrays N] [--failures F] [--seed S] [--from DB] [--to DB] [--step DB] [--probe DB] [--plots DIR]
                                        a receiver behind Gaussian noise: bit error rates and decodings
+  picture RECEIVED SENT OUT            an SVG of the array in the file RECEIVED and of what the library makes of it
 ";
 
 fn main() -> ExitCode {
@@ -36,7 +39,9 @@ fn run() -> Result<(), Failure> {
         "replay" => conformance::replay(arguments),
         "malformed" => malformed::malformed(arguments),
         "timing" => timing::timing(arguments),
+        "times" => times::times(arguments),
         "simulate" => simulate::simulate(arguments),
+        "picture" => picture::picture(arguments),
         _ => Err(USAGE.into()),
     }
 }

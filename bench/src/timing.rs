@@ -1,6 +1,6 @@
 //! The command `timing`: the library beside the two implementations in Rust. Only ratios are told.
 
-mod stopwatch;
+pub(crate) mod stopwatch;
 
 use std::fs;
 use std::path::{Path, PathBuf};
@@ -69,12 +69,11 @@ fn print_settings(stopwatch: &Stopwatch, random: &mut Random) {
         let count: u64 = reports.iter().map(|report| report.count).sum();
         let library_by = |maker| stopwatch.ratio((Maker::Library, &load), (maker, &load));
         println!(
-            "| {} | {} | {} | {} | {:.0}% | {:.2} | {:.2} | {:.2} | {:.0} |",
+            "| {} | {} | {} | {} | {closed} of {ARRAYS} | {:.2} | {:.2} | {:.2} | {:.0} |",
             setting.degree.number(),
             setting.wrong,
             setting.unsure,
             setting.iterations,
-            100.0 * closed as f64 / ARRAYS as f64,
             count as f64 / load.lines() as f64,
             library_by(Maker::FastCounted),
             library_by(Maker::FastNeeded),

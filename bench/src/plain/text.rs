@@ -21,7 +21,7 @@ pub fn printed(input: &[u8]) -> Vec<u8> {
 }
 
 /// The degree and the cells, or the number of the first test that fails.
-fn cells_of(input: &[u8]) -> Result<(Degree, Vec<u8>), u64> {
+pub fn cells_of(input: &[u8]) -> Result<(Degree, Vec<u8>), u64> {
     let (degree, lines) = match input {
         [b'4', b'\n', lines @ ..] => (Degree::Four, lines),
         [b'6', b'\n', lines @ ..] => (Degree::Six, lines),

@@ -1,8 +1,8 @@
 //! Ratios of times that a busy machine does not spoil.
 
+use std::fs;
 use std::hint::black_box;
 use std::time::Instant;
-use std::{fs, iter};
 
 use crate::damage;
 use crate::fast::{Decoder, Effort};
@@ -51,27 +51,41 @@ impl Maker {
     }
 }
 
-/// Arrays of one setting with their filling words.
+/// Arrays with their filling words.
 pub struct Load {
-    pub setting: Setting,
+    degree: Degree,
+    iterations: u64,
     arrays: Vec<(Vec<u8>, Vec<u64>)>,
 }
 
 impl Load {
+    /// Arrays of one setting.
     pub fn new(setting: Setting, arrays: usize, random: &mut Random) -> Load {
-        let (code, n) = (Code::of(setting.degree), setting.degree.n());
-        let words = 2 * setting.iterations as usize * n;
-        let received = || {
+        let code = Code::of(setting.degree);
+        let received = |random: &mut Random| {
             let sent = damage::sent(code, random);
             damage::hit(&sent, setting.wrong, setting.unsure, random)
         };
+        Load::of(received, setting.degree, setting.iterations, arrays, random)
+    }
+
+    /// Arrays that `received` makes.
+    pub fn of(
+        mut received: impl FnMut(&mut Random) -> Vec<u8>,
+        degree: Degree,
+        iterations: u64,
+        arrays: usize,
+        random: &mut Random,
+    ) -> Load {
+        let words = 2 * iterations as usize * degree.n();
         // All arrays before all filling words: settings that differ in the iterations alone then have the same arrays.
-        let received: Vec<_> = iter::repeat_with(received).take(arrays).collect();
+        let received: Vec<_> = (0..arrays).map(|_| received(random)).collect();
         let filled = received
             .into_iter()
             .map(|cells| (cells, random.words(words)));
         Load {
-            setting,
+            degree,
+            iterations,
             arrays: filled.collect(),
         }
     }
@@ -145,6 +159,18 @@ impl Stopwatch {
         plain / library
     }
 
+    /// Seconds of the library for each array of a load, in each round: the runs of one array are far from each other, so
+    /// that they are not all disturbed by the same other work.
+    pub fn runs(&self, load: &Load) -> Vec<Vec<f64>> {
+        let mut runs = vec![Vec::new(); load.arrays.len()];
+        for _ in 0..self.rounds {
+            for (array, runs) in runs.iter_mut().enumerate() {
+                runs.push(self.time(Maker::Library, load, array));
+            }
+        }
+        runs
+    }
+
     /// Seconds for one array.
     fn time(&self, maker: Maker, load: &Load, array: usize) -> f64 {
         let start = Instant::now();
@@ -153,9 +179,9 @@ impl Stopwatch {
     }
 
     fn decode(&self, maker: Maker, load: &Load, array: usize) -> Report {
-        let Setting {
+        let Load {
             degree, iterations, ..
-        } = load.setting;
+        } = *load;
         let (received, filling) = &load.arrays[array];
         let fast = &self.fast[usize::from(degree == Degree::Six)];
         let room = &mut [0; 64 * 64];
@@ -209,7 +235,7 @@ fn processor_seconds() -> Option<f64> {
     Some(nanoseconds * 1e-9)
 }
 
-fn median(mut values: Vec<f64>) -> f64 {
+pub fn median(mut values: Vec<f64>) -> f64 {
     values.sort_by(f64::total_cmp);
     values[values.len() / 2]
 }

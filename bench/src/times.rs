@@ -1,0 +1,241 @@
+//! The command `times`: how long one decoding of degree 6 by the library takes on this machine, in microseconds.
+//!
+//! What it prints stands as it is in docs/BENCHMARKS.md.
+
+use crate::arguments::{Arguments, Failure};
+use crate::damage::{self, Damage};
+use crate::machine::Machine;
+use crate::plain::{Code, Degree};
+use crate::random::Random;
+use crate::timing::stopwatch::{Load, Setting, Stopwatch, median};
+
+const DEGREE: Degree = Degree::Six;
+
+/// Wrong and unsure bits, and iterations, of the loads that are always told.
+const TOLD: [(usize, usize, u64); 4] = [(0, 0, 1), (0, 0, 4), (40, 60, 4), (100, 200, 10)];
+
+/// Numbers of wrong and of unsure bits of the loads that the worst is looked for in, each with each, beside all kinds of
+/// damage of the conformance run.
+const WRONG: [usize; 9] = [0, 40, 80, 120, 160, 200, 300, 500, 1000];
+const UNSURE: [usize; 9] = [0, 60, 120, 180, 240, 300, 400, 500, 600];
+
+/// Iterations for which the worst is told.
+const WORST: [u64; 3] = [1, 4, 20];
+
+pub fn times(mut arguments: Arguments) -> Result<(), Failure> {
+    let arrays: usize = arguments.option("arrays", 32)?;
+    let rounds: usize = arguments.option("rounds", 25)?;
+    let seed: u64 = arguments.option("seed", 1)?;
+    arguments.end()?;
+    if arrays == 0 || rounds == 0 {
+        return Err("there must be at least one array and one round".into());
+    }
+    let machine = Machine::watch();
+    let stopwatch = Stopwatch::new(rounds);
+    let mut random = Random::new(seed);
+    let told: Vec<Times> = TOLD
+        .iter()
+        .map(|&(wrong, unsure, iterations)| {
+            let kind = Kind::Bits { wrong, unsure };
+            kind.times(iterations, arrays, &stopwatch, &mut random)
+        })
+        .collect();
+    let worst: Vec<Times> = WORST
+        .iter()
+        .map(|&iterations| worst(iterations, arrays, &stopwatch, &mut random))
+        .collect();
+    println!(
+        "From `bench times --arrays {arrays} --rounds {rounds} --seed {seed}`: {}.",
+        machine.text()
+    );
+    println!();
+    print_table(&told, &worst);
+    print_summary(&told, &worst);
+    Ok(())
+}
+
+/// A kind of received arrays.
+#[derive(Clone, Copy)]
+enum Kind {
+    Bits { wrong: usize, unsure: usize },
+    Damaged(Damage),
+}
+
+impl Kind {
+    fn all() -> Vec<Kind> {
+        let bits = WRONG.iter().flat_map(|&wrong| {
+            UNSURE
+                .iter()
+                .map(move |&unsure| Kind::Bits { wrong, unsure })
+        });
+        bits.chain(Damage::ALL.map(Kind::Damaged)).collect()
+    }
+
+    fn name(self) -> String {
+        match self {
+            Kind::Bits {
+                wrong: 0,
+                unsure: 0,
+            } => "clean".to_string(),
+            Kind::Bits { wrong, unsure } => format!("{wrong} wrong, {unsure} unsure"),
+            Kind::Damaged(damage) => damage.name().to_string(),
+        }
+    }
+
+    fn load(self, iterations: u64, arrays: usize, random: &mut Random) -> Load {
+        match self {
+            Kind::Bits { wrong, unsure } => Load::new(
+                Setting::new(DEGREE, wrong, unsure, iterations),
+                arrays,
+                random,
+            ),
+            Kind::Damaged(damage) => {
+                let code = Code::of(DEGREE);
+                let received =
+                    |random: &mut Random| damage.done_to(damage::sent(code, random), code, random);
+                Load::of(received, DEGREE, iterations, arrays, random)
+            }
+        }
+    }
+
+    fn times(
+        self,
+        iterations: u64,
+        arrays: usize,
+        stopwatch: &Stopwatch,
+        random: &mut Random,
+    ) -> Times {
+        let load = self.load(iterations, arrays, random);
+        Times::of(self.name(), iterations, &stopwatch.runs(&load))
+    }
+}
+
+/// Microseconds of a second.
+const MICRO: f64 = 1e6;
+
+/// Times of one load, in microseconds.
+struct Times {
+    name: String,
+    iterations: u64,
+    /// Of all runs.
+    least: f64,
+    median: f64,
+    /// The greatest over the arrays of the least time of the array: a decoding does the same each time, so that what is
+    /// above the least is other work on the machine.
+    slowest_array: f64,
+    /// Of all runs.
+    slowest_run: f64,
+}
+
+impl Times {
+    /// From the runs of each array, in seconds.
+    fn of(name: String, iterations: u64, runs: &[Vec<f64>]) -> Times {
+        let least = |runs: &Vec<f64>| runs.iter().copied().fold(f64::INFINITY, f64::min);
+        let all = runs.concat();
+        Times {
+            name,
+            iterations,
+            least: MICRO * least(&all),
+            slowest_array: MICRO * runs.iter().map(least).fold(0.0, f64::max),
+            slowest_run: MICRO * all.iter().copied().fold(0.0, f64::max),
+            median: MICRO * median(all),
+        }
+    }
+
+    fn print(&self, before: &str) {
+        println!(
+            "| {before}{} | {} | {} | {} | {} | {} |",
+            self.name,
+            self.iterations,
+            time_text(self.least),
+            time_text(self.median),
+            time_text(self.slowest_array),
+            time_text(self.slowest_run)
+        );
+    }
+}
+
+/// The load with the slowest array, of all kinds.
+fn worst(iterations: u64, arrays: usize, stopwatch: &Stopwatch, random: &mut Random) -> Times {
+    let tried = Kind::all()
+        .into_iter()
+        .map(|kind| kind.times(iterations, arrays, stopwatch, random));
+    let slowest = tried.max_by(|a, b| a.slowest_array.total_cmp(&b.slowest_array));
+    slowest.expect("there are kinds")
+}
+
+fn print_table(told: &[Times], worst: &[Times]) {
+    println!("| load | L | least, µs | median, µs | slowest array, µs | slowest run, µs |");
+    println!("|{}", "---|".repeat(6));
+    told.iter().for_each(|times| times.print(""));
+    let before = format!("worst of {} loads: ", Kind::all().len());
+    worst.iter().for_each(|times| times.print(&before));
+    println!();
+}
+
+/// The line for those who read no table.
+fn print_summary(told: &[Times], worst: &[Times]) {
+    let typical: Vec<String> = told
+        .iter()
+        .map(|times| {
+            let (name, iterations) = (&times.name, times.iterations);
+            format!("{} µs ({name}, L = {iterations})", time_text(times.median))
+        })
+        .collect();
+    let slowest = worst
+        .iter()
+        .max_by(|a, b| a.slowest_array.total_cmp(&b.slowest_array));
+    let worst = slowest.map_or(String::new(), |times| {
+        format!(
+            "{} µs ({}, L = {})",
+            time_text(times.slowest_array),
+            times.name,
+            times.iterations
+        )
+    });
+    println!(
+        "One decoding of degree 6 typically takes {}; the slowest array seen over all loads tried takes {worst}.",
+        typical.join(", ")
+    );
+}
+
+/// Microseconds with as many digits as they are worth.
+fn time_text(microseconds: f64) -> String {
+    if microseconds < 100.0 {
+        format!("{microseconds:.1}")
+    } else {
+        format!("{microseconds:.0}")
+    }
+}
+
+#[cfg(test)]
+mod tests {
+    use super::*;
+
+    #[test]
+    fn an_array_counts_with_its_least_time() {
+        let runs = [vec![5e-6, 3e-6, 90e-6], vec![4e-6, 7e-6, 6e-6]];
+        let times = Times::of("some".to_string(), 4, &runs);
+        let seen = [
+            times.least,
+            times.median,
+            times.slowest_array,
+            times.slowest_run,
+        ];
+        assert_eq!(seen.map(f64::round), [3.0, 6.0, 4.0, 90.0]);
+    }
+
+    #[test]
+    fn every_kind_is_decoded_and_has_a_name_of_its_own() {
+        let (stopwatch, mut random) = (Stopwatch::new(1), Random::new(1));
+        let mut names: Vec<String> = Vec::new();
+        for kind in Kind::all() {
+            let times = kind.times(1, 2, &stopwatch, &mut random);
+            assert!(times.least > 0.0 && times.least <= times.slowest_array);
+            names.push(times.name);
+        }
+        names.sort();
+        names.dedup();
+        assert_eq!(names.len(), WRONG.len() * UNSURE.len() + Damage::ALL.len());
+    }
+}
