@@ -5,6 +5,9 @@
 use std::path::{Path, PathBuf};
 use std::{env, process};
 
+/// The crate whose static library is linked. The name of its file follows from this: the bench has it nowhere else.
+const CRATE: &str = "export";
+
 const VARIABLE: &str = "PUGDREL_LIB";
 
 fn main() {
@@ -34,11 +37,16 @@ fn library_path() -> PathBuf {
             "{VARIABLE} must be an absolute path, and is {}",
             path.display()
         )),
-        None => root.join("target/staticlib/libexport.a"),
+        None => root.join(written()),
     }
 }
 
-/// `export` of `/some/where/libexport.a`.
+/// The file that the toolchain writes, from the root of the repository.
+fn written() -> String {
+    format!("target/staticlib/lib{CRATE}.a")
+}
+
+/// `some` of `/some/where/libsome.a`.
 fn link_name(library: &Path) -> Option<&str> {
     library
         .file_name()?
@@ -49,7 +57,10 @@ fn link_name(library: &Path) -> Option<&str> {
 
 fn stop(why: &str) -> ! {
     eprintln!("The static library of the decoder is missing: {why}.");
-    eprintln!("Make it with 'rt staticlib export' in the root of the repository, which writes");
-    eprintln!("target/staticlib/libexport.a, or name another one: {VARIABLE}=/path/to/libexport.a");
+    eprintln!("Make it with 'rt staticlib {CRATE}' in the root of the repository, which writes");
+    eprintln!(
+        "{}, or name another one: {VARIABLE}=/path/to/libNAME.a",
+        written()
+    );
     process::exit(1);
 }

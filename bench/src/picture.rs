@@ -106,7 +106,7 @@ impl Sample {
                 ],
                 notes: &[
                     "Ones are dark cells, zeros light ones.",
-                    "Inside of the thin frame: the message; pale: check bits.",
+                    "The check bits around the message are paler.",
                 ],
             },
             Panel {
@@ -151,8 +151,7 @@ impl Sample {
         });
         let k = self.degree.k();
         format!(
-            "Ones are dark and zeros are light cells. The framed part is the message of {k} by {k} bits, the rest are check \
-             bits. {}",
+            "Ones are dark and zeros are light cells; the check bits around the message of {k} by {k} bits are paler. {}",
             panels.join(" ")
         )
     }
@@ -300,4 +299,100 @@ fn runs(n: usize, left: f64, chosen: impl Fn(usize, usize) -> bool) -> String {
         }
     }
     path
+}
+
+#[cfg(test)]
+mod tests {
+    use super::*;
+    use std::path::Path;
+
+    fn file(name: &str) -> String {
+        let samples = Path::new(env!("CARGO_MANIFEST_DIR")).join("../samples");
+        samples.join(name).display().to_string()
+    }
+
+    fn sample() -> Sample {
+        let [received, sent] =
+            ["degree6.txt", "degree6-sent.txt"].map(|name| cells_of(&file(name)));
+        Sample::of(&received.unwrap(), &sent.unwrap()).unwrap()
+    }
+
+    #[test]
+    fn the_sample_is_mended_as_a_whole() {
+        let sample = sample();
+        let [received, decoded] = sample.panels().map(|panel| {
+            let marks = panel.legend.iter();
+            marks
+                .map(|&(mark, _)| panel.count(mark))
+                .collect::<Vec<_>>()
+        });
+        assert_eq!(received, [3947, 44, 105]);
+        assert_eq!(decoded, [3947, 44, 105, 0, 0]);
+        assert!(sample.report.closed);
+    }
+
+    #[test]
+    fn the_picture_has_its_counts_in_words_and_all_marks() {
+        let svg = sample().to_svg();
+        assert!(svg.contains("Received: right 3947, wrong 44, unsure 105."));
+        assert!(svg.contains(
+            "closed: right 3947, mended (was wrong) 44, filled (was unsure) 105, left wrong 0, left unsure 0.</desc>"
+        ));
+        for mark in [
+            "<title>wrong</title>",
+            "<title>unsure</title>",
+            "<title>mended (was wrong)</title>",
+            "<title>filled (was unsure)</title>",
+        ] {
+            assert_eq!(svg.matches(mark).count(), 1, "{mark}");
+        }
+        assert!(!svg.contains("<title>left wrong</title>"));
+        assert!(!svg.contains("NaN") && !svg.contains("href") && !svg.contains("url("));
+    }
+
+    #[test]
+    fn what_decoding_cannot_mend_is_shown() {
+        let n = Degree::Four.n();
+        let sent = vec![0; n * n];
+        let decoded = |received: Vec<u8>, mark: Mark| {
+            let sample = Sample::of(&(Degree::Four, received), &(Degree::Four, sent.clone()));
+            let sample = sample.unwrap();
+            let [_, panel] = sample.panels();
+            assert!(panel.title.ends_with("not closed"));
+            (panel.count(mark), sample.to_svg())
+        };
+        let (unsure, svg) = decoded(vec![UNSURE; n * n], Mark::Unsure);
+        assert_eq!(unsure, n * n);
+        assert!(svg.contains("<title>left unsure</title>"));
+        // Three wrong cells in each of three rows and columns: no line can mend them by itself.
+        let place = |row: usize, column: usize| (4..7).contains(&row) && (4..7).contains(&column);
+        let wrong = (0..n * n).map(|at| u8::from(place(at / n, at % n)));
+        let (wrong, svg) = decoded(wrong.collect(), Mark::Wrong);
+        assert!(wrong > 0);
+        assert!(svg.contains("<title>left wrong</title>"));
+    }
+
+    #[test]
+    fn arrays_that_do_not_belong_together_are_refused() {
+        let array = |degree: Degree, cell: u8| (degree, vec![cell; degree.n() * degree.n()]);
+        let refused = |a, b| Sample::of(&a, &b).is_err();
+        assert!(refused(array(Degree::Four, 0), array(Degree::Six, 0)));
+        assert!(refused(array(Degree::Four, 0), array(Degree::Four, UNSURE)));
+        assert!(!refused(
+            array(Degree::Four, UNSURE),
+            array(Degree::Four, 0)
+        ));
+        assert!(cells_of(&file("none.txt")).is_err());
+        assert!(cells_of(concat!(env!("CARGO_MANIFEST_DIR"), "/Cargo.toml")).is_err());
+    }
+
+    #[test]
+    fn cells_are_drawn_in_runs() {
+        let chosen = |row, column| row == 1 && column != 2;
+        let y = TOP + CELL;
+        assert_eq!(
+            runs(4, 0.0, chosen),
+            format!("M0 {y}h12v6h-12zM18 {y}h6v6h-6z")
+        );
+    }
 }

@@ -1,4 +1,4 @@
-//! The command `timing`: the library beside the two implementations in Rust. Only ratios are told.
+//! The command `timing`: the library beside the two implementations in Rust, in ratios of their times.
 
 pub(crate) mod stopwatch;
 
@@ -6,6 +6,7 @@ use std::fs;
 use std::path::{Path, PathBuf};
 
 use crate::arguments::{Arguments, Failure};
+use crate::machine::Machine;
 use crate::plain::Degree;
 use crate::random::Random;
 use crate::svg::{Axis, Plot, Scale, Series};
@@ -35,8 +36,7 @@ pub fn timing(mut arguments: Arguments) -> Result<(), Failure> {
     let plots: PathBuf = arguments.option("plots", default_plots())?;
     arguments.end()?;
     let run = format!("bench timing --rounds {rounds} --seed {seed}");
-    println!("From `{run}`.");
-    println!();
+    let machine = Machine::watch();
     let stopwatch = Stopwatch::new(rounds);
     let mut random = Random::new(seed);
     print_settings(&stopwatch, &mut random);
@@ -46,6 +46,7 @@ pub fn timing(mut arguments: Arguments) -> Result<(), Failure> {
         growth.print(&curves);
         fs::write(plots.join(growth.file), growth.plot(&curves, &run).to_svg())?;
     }
+    println!("From `{run}`: {}.", machine.text());
     Ok(())
 }
 
