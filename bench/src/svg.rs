@@ -20,8 +20,8 @@ pub struct Plot {
     pub x: Axis,
     pub y: Axis,
     pub series: Vec<Series>,
-    /// What the legend says of a measured 0 where the vertical axis has no place for it: an arrow at the lower edge
-    /// stands for it then. Without this, it is left out.
+    /// What the legend says of a measured 0 where the vertical axis has no place for it: an arrow below the scale stands
+    /// for it then. Without this, it is left out.
     pub zero: Option<String>,
     /// The run that the plot comes from.
     pub source: String,
@@ -36,6 +36,9 @@ const BOTTOM: f64 = 400.0;
 /// From the frame to the texts of the legend, and what a character of them takes at most.
 const LEGEND: f64 = 52.0;
 const CHARACTER: f64 = 8.0;
+
+/// From the arrows of one series to those of the next.
+const ARROW_STEP: f64 = 18.0;
 
 /// From one entry of the legend to the next.
 const LEGEND_STEP: f64 = 24.0;
@@ -70,7 +73,8 @@ impl Plot {
     pub fn to_svg(&self) -> String {
         let points = || self.series.iter().flat_map(|series| &series.points);
         let x = Ruler::new(self.x.scale, points().map(|point| point.0), LEFT, RIGHT);
-        let y = Ruler::new(self.y.scale, points().map(|point| point.1), BOTTOM, TOP);
+        let floor = BOTTOM - self.band();
+        let y = Ruler::new(self.y.scale, points().map(|point| point.1), floor, TOP);
         let width = RIGHT + LEGEND + CHARACTER * self.longest_legend() as f64;
         let mut lines = vec![
             format!(
@@ -132,33 +136,43 @@ impl Plot {
         value == 0.0 && !self.y.scale.shows(value)
     }
 
-    fn has_zeros(&self) -> bool {
-        let mut points = self.series.iter().flat_map(|series| &series.points);
-        points.any(|point| self.is_zero(point.1))
+    /// The numbers of the series with such zeros.
+    fn with_zeros(&self) -> Vec<usize> {
+        let has_zeros = |number: &usize| {
+            let mut points = self.series[*number].points.iter();
+            points.any(|point| self.is_zero(point.1))
+        };
+        (0..self.series.len()).filter(has_zeros).collect()
     }
 
     /// The text for the arrows, if there are any.
     fn zero_text(&self) -> Option<&str> {
-        self.zero.as_deref().filter(|_| self.has_zeros())
+        let zero = self.zero.as_deref();
+        zero.filter(|_| !self.with_zeros().is_empty())
     }
 
-    /// Arrows for zeros at the lower edge; those of one series above those of another.
+    /// The height of the band below the scale that the arrows stand in.
+    fn band(&self) -> f64 {
+        match self.zero_text() {
+            Some(_) => ARROW_STEP * self.with_zeros().len() as f64 + 4.0,
+            None => 0.0,
+        }
+    }
+
+    /// Arrows for zeros in their band; those of one series above those of another.
     fn zero_arrows(&self, x: &Ruler) -> Vec<String> {
         if self.zero_text().is_none() {
             return Vec::new();
         }
-        let mut arrows = Vec::new();
-        let mut tip = BOTTOM - 4.0;
-        for (number, series) in self.series.iter().enumerate() {
-            let zeros = series.points.iter().filter(|point| self.is_zero(point.1));
-            let places: Vec<f64> = zeros.map(|point| x.place(point.0)).collect();
-            let drawn = places.iter().map(|&at| arrow((at, tip), colour(number)));
-            arrows.extend(drawn);
-            if !places.is_empty() {
-                tip -= 18.0;
-            }
+        let middle = BOTTOM - self.band() / 2.0;
+        let mut lines = vec![label(LEFT - 8.0, middle + 4.5, "end", "none", "")];
+        for (above, number) in self.with_zeros().into_iter().enumerate() {
+            let tip = BOTTOM - 4.0 - ARROW_STEP * above as f64;
+            let points = self.series[number].points.iter();
+            let zeros = points.filter(|point| self.is_zero(point.1));
+            lines.extend(zeros.map(|point| arrow((x.place(point.0), tip), colour(number))));
         }
-        arrows
+        lines
     }
 
     fn legend(&self) -> Vec<String> {
@@ -318,6 +332,7 @@ mod tests {
         let told = plot(Scale::Log, &points, Some("none in 7 bits"));
         assert_eq!(arrows(&told), 2 + 1);
         assert!(told.to_svg().contains("none in 7 bits</text>"));
+        assert!(told.to_svg().contains(">none</text>"));
         // Without a text it is left out; without a zero, or with a place for it, the legend says nothing of it.
         assert_eq!(arrows(&plot(Scale::Log, &points, None)), 0);
         for other in [
