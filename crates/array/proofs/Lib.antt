@@ -1,13 +1,13 @@
 pub mod ArrayLaws
-pub mod WordLaws
+mod WordLaws
 pub mod ArrayEncoding
 mod PackedEncoding
 mod Loops
 pub mod Refusing
-pub mod PackedLaws
-pub mod HalfLaws
-pub mod RunLaws
-pub mod ReportLaws
-pub mod DecodeLaws
+mod PackedLaws
+mod HalfLaws
+mod RunLaws
+mod ReportLaws
+mod DecodeLaws
 pub mod Theorem
 pub mod SentArrays

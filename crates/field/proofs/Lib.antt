@@ -1,11 +1,11 @@
-pub mod Doubling
+mod Doubling
 pub mod Primitive
 pub mod Powers
 pub mod Products
 pub mod Uniqueness
 pub mod PowerTable
 pub mod Weights
-pub mod Filling
-pub mod Reading
+mod Filling
+mod Reading
 pub mod Locating
-pub mod Search
+mod Search

@@ -1,28 +1,28 @@
 pub mod CellLaws
 pub mod Words
-pub mod Packing
-pub mod Gathering
-pub mod Spreading
+mod Packing
+mod Gathering
+mod Spreading
 pub mod RowLaws
-pub mod SumLaws
-pub mod Flips
-pub mod Decoders
+mod SumLaws
+mod Flips
+mod Decoders
 pub mod Distances
-pub mod Mending
+mod Mending
 pub mod LineLaw
-pub mod Choosing
-pub mod Tries
+mod Choosing
+mod Tries
 pub mod Refusing
-pub mod EntryLaws
+mod EntryLaws
 pub mod ClauseLaws
 pub mod CountLaws
 pub mod Examples
-pub mod Reaching
-pub mod Settling
-pub mod Starting
-pub mod Masking
+mod Reaching
+mod Settling
+mod Starting
+mod Masking
 pub mod OneCodeword
-pub mod Walking
+mod Walking
 pub mod LineEncoding
 pub mod UnitLaws
 pub mod Bounds

@@ -1,5 +1,5 @@
-pub mod SwapLaws
-pub mod CopyLaws
+mod SwapLaws
+mod CopyLaws
 pub mod ByteLaws
-pub mod GatherLaws
+mod GatherLaws
 pub mod ZeroLaws
