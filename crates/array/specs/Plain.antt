@@ -8,7 +8,7 @@ use lib.ListN.{drop}
 use Rattle.laws.specs.Tests.{every}
 use Rattle.degree.specs.declared.Degree.{Degree}
 use Rattle.degree.specs.Degree.{size}
-use Rattle.line.specs.Cells.{erasures, distance}
+use Rattle.line.specs.Cells.{erasures, distance, designedDistance}
 use Rattle.line.specs.Codeword.{isCodeword}
 use Rattle.array.specs.Arrays.{line, column}
 use Rattle.array.specs.Halves.{rowHalf, columnHalf, rowCount, columnCount}
@@ -33,4 +33,4 @@ module _ (d : Degree) where
 
   -- the row condition: in each received row twice the wrong bits plus the unsure ones, against the array s, is below 6
   abbrev pub RowCondition : List ℕ → List ℕ → Type 0
-  RowCondition r s = (i : ℕ) → i < size d → 2 * distance (line (size d) r i) (line (size d) s i) + erasures (line (size d) r i) < 6
+  RowCondition r s = (i : ℕ) → i < size d → 2 * distance (line (size d) r i) (line (size d) s i) + erasures (line (size d) r i) < designedDistance
