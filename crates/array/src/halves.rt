@@ -24,7 +24,7 @@ ghost use Rattle.array.specs.Steps.{StepDone};
 
 // ---- rows
 
-// Each row is lent, as a writable part of the array, to the line layer; its messages are kept packed too.
+// Each row is lent, as a writable part of the array, to the line part; its messages are kept packed too.
 pub fn row_half(
     d: Degree,
     cells: &mut [u8],
