@@ -6,7 +6,7 @@ use std::path::{Path, PathBuf};
 use std::{env, process};
 
 /// The crate whose static library is linked. The name of its file follows from this: the bench has it nowhere else.
-const CRATE: &str = "export";
+const CRATE: &str = "pugdrel";
 
 const VARIABLE: &str = "PUGDREL_LIB";
 

@@ -3,13 +3,13 @@
  * An array of n by n bits, each row and column of which is a codeword of a t = 2 extended BCH code, arrives with some bits wrong
  * and some marked unsure. pugdrel_decode mends it. The other functions encode a message, take it out again, and work on one line.
  * The library is written in Rattle: the source of every function below is proved to return, to touch no memory but what it is
- * lent, and to give exactly what its contract says, for every input. The contracts are in crates/export/specs. Not proved are the
+ * lent, and to give exactly what its contract says, for every input. The contracts are in crates/pugdrel/specs. Not proved are the
  * compiler's back end and this header, which repeats the types of the source by hand; examples/c checks every call.
  *
  * Build and link, from the root of the repository, on x86-64 Linux:
  *
- *     rt staticlib export
- *     cc -Iinclude examples/c/decode.c target/staticlib/libexport.a -o target/decode && target/decode
+ *     rt staticlib pugdrel
+ *     cc -Iinclude examples/c/decode.c target/staticlib/libpugdrel.a -o target/decode && target/decode
  *
  * Sizes. The degree is 4 or 6. At degree 4 a line has n = 16 cells, k = 7 of them message; at degree 6 n = 64 and k = 51. An
  * array is n * n cells, row after row; a message is k * k cells. The length of every slice is tested, and must be exact.
@@ -51,6 +51,14 @@
 #ifdef __cplusplus
 extern "C" {
 #endif
+
+/* The version of this header: 1000000 times the first number, 1000 times the second, and the third. It is 0.1.0. The first grows
+ * where a call changes: a program is to compare it with pugdrel_version() where header and library may come apart. */
+#define PUGDREL_VERSION 1000
+
+/* The version of the library. */
+PUGDREL_NODISCARD
+uint64_t pugdrel_version(void);
 
 /* The cells of a line, and the message cells of a line. An array has the square of the first, a message of the second. */
 #define PUGDREL_N4 16

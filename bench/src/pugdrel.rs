@@ -60,6 +60,11 @@ impl fmt::Display for Refusal {
 
 impl std::error::Error for Refusal {}
 
+/// The version of the library: 1000000 times the first number, 1000 times the second, and the third.
+pub fn version() -> u64 {
+    entries::version()
+}
+
 /// Decodes a received array of n by n cells (0, 1, or 2 for unsure) into `cells`, with 2 × iterations × n filling words.
 pub fn decode(
     degree: u64,
@@ -150,6 +155,11 @@ pub fn sheet(input: &[u8]) -> Result<Vec<u8>, Refusal> {
 /// with go to `report`, which must have exactly their length.
 pub mod entries {
     use super::library;
+
+    pub fn version() -> u64 {
+        // SAFETY: the function takes nothing and touches no memory.
+        unsafe { library::pugdrel_version() }
+    }
 
     /// Reports the count, the unsure cells, and 1 for closed.
     pub fn decode(
@@ -295,6 +305,8 @@ pub mod entries {
 /// The C interface, as `include/pugdrel.h` declares it.
 mod library {
     unsafe extern "C" {
+        pub fn pugdrel_version() -> u64;
+
         pub fn pugdrel_decode(
             degree: u64,
             iterations: u64,

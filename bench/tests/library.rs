@@ -115,3 +115,13 @@ fn refusals_have_their_numbers_and_change_nothing() {
         Err(Refusal::Cell)
     );
 }
+
+#[test]
+fn the_library_is_of_the_headers_version() {
+    let header = include_str!("../../include/pugdrel.h");
+    let number = header
+        .lines()
+        .find_map(|line| line.strip_prefix("#define PUGDREL_VERSION "))
+        .expect("the header has a version");
+    assert_eq!(number.trim().parse(), Ok(pugdrel::version()));
+}

@@ -1,7 +1,7 @@
 /* Sends messages through a bad channel and back, and calls every function of the library once with a result that is known.
- * Build and run, from the root of the repository, after `rt staticlib export`:
+ * Build and run, from the root of the repository, after `rt staticlib pugdrel`:
  *
- *     cc -Iinclude examples/c/decode.c target/staticlib/libexport.a -o target/decode && target/decode
+ *     cc -Iinclude examples/c/decode.c target/staticlib/libpugdrel.a -o target/decode && target/decode
  *
  * The exit status is 0 if everything is as it should be. */
 #include "pugdrel.h"
@@ -227,6 +227,7 @@ static void sheet(void)
 
 int main(void)
 {
+    check(pugdrel_version() == PUGDREL_VERSION, "the library is of the header's version");
     round_trip(4, PUGDREL_N4, PUGDREL_K4);
     round_trip(6, PUGDREL_N6, PUGDREL_K6);
     refusals();

@@ -1,4 +1,0 @@
-pub mod Reports
-pub mod ArrayCalls
-pub mod LineCalls
-pub mod SheetCall

@@ -1,0 +1,90 @@
+-- What the calls of one word or line tell, from what the entries below promise.
+-- Assumes nothing.
+use mathlib.Core.Path.{_≡_, refl, sym, ap, _∙_}
+use mathlib.Core.Bool.{Bool, true, false, cond, not, true≢false}
+use mathlib.Core.List.{List, [], _∷_, _++_, append-nil}
+use Prim.Native.Nat.{ℕ, _^_}
+use native.Mathlib.Omega.{arith}
+use lib.ListN.{length, take, drop, drop-of-length-le}
+use Rattle.laws.specs.Bits.{bit}
+use Rattle.degree.specs.declared.Degree.{Degree}
+use Rattle.line.specs.declared.entry.LineAnswer.{LineAnswer}
+use Rattle.line.specs.declared.entry.MessagesAnswer.{MessagesAnswer}
+use Rattle.line.specs.Bounded.{Answer, Failed, orBack, bounded}
+use Rattle.line.specs.Decoding.{messages}
+use Rattle.line.specs.Clauses.{count}
+use Rattle.line.specs.Refusals.{refusal, given, misfit, lineTests, messagesTests}
+use Rattle.line.specs.Entries.{isFound, refusalOf, foundOf, Answered, sentRefusal, sentCount, MessagesDone}
+use Rattle.line.proofs.Refusing.{some-none, none-applies, given-none}
+use Rattle.pugdrel.specs.Reports.{fits, told}
+use Rattle.pugdrel.specs.LineCalls.{lineCall, LineTold, MessagesTold}
+use Rattle.pugdrel.proofs.Handing.{or-true, no-line, Alike, same-refusal, same-given, lent-part}
+
+-- ---- a word or a line, decoded in place: the part that is handed on, and the cells after it
+
+module _ (bound degree : ℕ) (s : List ℕ) where
+  line-alike : Alike (lineTests bound degree) s
+  unfolding lineTests
+  line-alike = record {
+    right = refl;
+    wrong = rw (no-line degree, or-true (misfit (length s) (2 ^ degree)));
+    refused = λ z.
+        let n = none-applies (lineTests bound degree s (true ∷ [])) tt z in
+        true≢false (some-none (misfit (length s) (2 ^ degree) ∷ true ∷ []) (n .1 .0) .1 .0);
+  }
+
+  module _ (asked : List ℕ → Degree → Answer) where
+    abbrev Given : List ℕ → List Bool → Answer
+    Given p more = given degree (lineTests bound degree p more) (asked p) Failed
+
+    -- cells of the part, followed by what is behind it
+    whole : (fit : Bool) (x : ℕ) {q : List ℕ} → x ≡ cond fit (length s) 0 → q ≡ orBack (cond fit s []) (Given (cond fit s []) [])
+        → q ++ drop x s ≡ orBack s (Given s (not fit ∷ []))
+    whole true x {q} e h =
+        rw (drop-of-length-le s {i = x} (omega arith), append-nil q) (h ∙ ap (orBack s) (same-given (lineTests bound degree) s line-alike true degree asked Failed))
+    whole false x {q} e h =
+        let none : Given [] [] ≡ Failed = given-none (lineTests bound degree [] []) degree (asked []) Failed (λ z. line-alike .refused (sym (line-alike .wrong) ∙ z)) in
+        let none′ : Given s (true ∷ []) ≡ Failed = given-none (lineTests bound degree s (true ∷ [])) degree (asked s) Failed (line-alike .refused) in
+        rw (e, h, none, none′)
+
+    pub line-told : (x : ℕ) {q old new : List ℕ} {a : LineAnswer} {number : ℕ} → x ≡ cond (fits 1 old) (length s) 0
+        → Answered (refusal (lineTests bound degree (take x s) [])) (Given (take x s) []) (take x s) q a
+        → number ≡ refusalOf a → new ≡ told (bit (foundOf a) ∷ []) old
+        → LineTold (refusal (lineCall bound degree s old)) (given degree (lineCall bound degree s old) (asked s) Failed) s (q ++ drop x s) old new number
+    line-told x {old} e done n t =
+        let fit = fits 1 old in
+        let done′ = rw (lent-part fit s e) at done in
+        record {
+          refusal = n ∙ done′ .refusal ∙ same-refusal (lineTests bound degree) s line-alike fit;
+          cells = whole fit x e (done′ .cells);
+          report = t ∙ ap (λ (b : Bool). told (bit b ∷ []) old) (done′ .found ∙ ap isFound (same-given (lineTests bound degree) s line-alike fit degree asked Failed));
+        }
+
+-- ---- the messages of a line
+
+module _ (degree : ℕ) (incoming channel : List ℕ) (filling : ℕ) (s : List ℕ) where
+  abbrev Tests : List ℕ → List Bool → List (ℕ × Bool)
+  Tests p more = messagesTests degree p channel s more
+
+  messages-alike : Alike Tests incoming
+  unfolding messagesTests
+  messages-alike = record {
+    right = refl;
+    wrong = rw (no-line degree, or-true (misfit (length s) (2 ^ degree)), or-true (misfit (length channel) (2 ^ degree)), or-true (misfit (length incoming) (2 ^ degree)));
+    refused = λ z.
+        let n = none-applies (Tests incoming (true ∷ [])) tt z in
+        let k = 2 ^ degree in
+        true≢false (some-none (misfit (length incoming) k ∷ misfit (length channel) k ∷ misfit (length s) k ∷ true ∷ []) (n .1 .0) .1 .1 .1 .0);
+  }
+
+  pub messages-told : {part after old new : List ℕ} {a : MessagesAnswer} {number : ℕ} → part ≡ cond (fits 1 old) incoming []
+      → MessagesDone degree part channel filling s after a → number ≡ sentRefusal a → new ≡ told (sentCount a ∷ []) old
+      → MessagesTold degree incoming channel filling s after old new number
+  messages-told {old} e done n t =
+      let fit = fits 1 old in
+      let done′ = rw e at done in
+      record {
+        refusal = n ∙ done′ .refusal ∙ same-refusal Tests incoming messages-alike fit;
+        cells = done′ .cells ∙ same-given Tests incoming messages-alike fit degree (λ p d. messages (bounded d) p channel filling) s;
+        report = t ∙ ap (λ (x : ℕ). told (x ∷ []) old) (done′ .count ∙ same-given Tests incoming messages-alike fit degree (λ p d. count (bounded d) p channel filling) 0);
+      }

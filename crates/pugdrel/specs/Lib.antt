@@ -1,0 +1,5 @@
+pub mod Reports
+pub mod ArrayCalls
+pub mod LineCalls
+pub mod SheetCall
+pub mod Version

@@ -1,0 +1,111 @@
+// The calls of one word or line.
+use crate::reports::bit_of;
+use crate::reports::lent;
+use crate::reports::tell;
+use line::entry::LineAnswer;
+use line::entry::MessagesAnswer;
+use line::entry::bounded_distance;
+use line::entry::decode_line;
+use line::entry::line_messages;
+use line::refusals::number_of;
+ghost use mathlib.Core.Path.{_≡_};
+ghost use mathlib.Core.List.{[], _∷_};
+ghost use Rattle.laws.specs.Bits.{bit};
+ghost use Rattle.line.specs.Entries.{refusalOf, foundOf, sentRefusal, sentCount};
+ghost use Rattle.pugdrel.specs.Reports.{told};
+ghost use Rattle.pugdrel.specs.LineCalls.{BoundedTold, DecodeLineTold, MessagesTold};
+
+// ---- an answer in document 01's numbers
+
+fn line_refusal(answer: LineAnswer) -> u64
+    ensures { λ r. ⌜ r ≡ refusalOf answer ⌝ }
+{
+    match answer {
+        LineAnswer::Refused(why) => number_of(why),
+        LineAnswer::Failed => 0,
+        LineAnswer::Found => 0,
+    }
+}
+
+fn is_found(answer: LineAnswer) -> bool
+    ensures { λ r. ⌜ r ≡ foundOf answer ⌝ }
+{
+    match answer {
+        LineAnswer::Refused(_) => false,
+        LineAnswer::Failed => false,
+        LineAnswer::Found => true,
+    }
+}
+
+fn sent_refusal(answer: MessagesAnswer) -> u64
+    ensures { λ r. ⌜ r ≡ sentRefusal answer ⌝ }
+{
+    match answer {
+        MessagesAnswer::Refused(why) => number_of(why),
+        MessagesAnswer::Sent(_) => 0,
+    }
+}
+
+fn sent_count(answer: MessagesAnswer) -> u64
+    ensures { λ r. ⌜ r ≡ sentCount answer ⌝ }
+{
+    match answer {
+        MessagesAnswer::Refused(_) => 0,
+        MessagesAnswer::Sent(count) => count,
+    }
+}
+
+// ---- the calls
+
+// Reports found, and returns the refusal number.
+fn tell_found(answer: LineAnswer, report: &mut [u64]) -> u64
+    ensures { λ r. ⌜ (r ≡ refusalOf answer) × (now (report .exit) ≡ told (bit (foundOf answer) ∷ []) (now (report .entry))) ⌝ }
+{
+    let numbers = [bit_of(is_found(answer))];
+    tell(&numbers, report);
+    line_refusal(answer)
+}
+
+// Bounded-distance decoding of a full word, in place. Reports found.
+#[no_mangle]
+pub extern "C" fn pugdrel_bounded_distance(degree: u64, word: &mut [u8], report: &mut [u64]) -> u64
+    ensures { λ r. ⌜ BoundedTold degree (now (word .entry)) (now (word .exit)) (now (report .entry)) (now (report .exit)) r ⌝ }
+{
+    let end = lent(report.len() == 1, word.len());
+    let answer = bounded_distance(degree, &mut word[..end]);
+    tell_found(answer, report)
+}
+
+// Line decoding, in place. Reports found.
+#[no_mangle]
+pub extern "C" fn pugdrel_decode_line(
+    degree: u64,
+    cells: &mut [u8],
+    filling: u64,
+    report: &mut [u64],
+) -> u64
+    ensures { λ r. ⌜ DecodeLineTold degree filling (now (cells .entry)) (now (cells .exit)) (now (report .entry)) (now (report .exit)) r ⌝ }
+{
+    let end = lent(report.len() == 1, cells.len());
+    let answer = decode_line(degree, &mut cells[..end], filling);
+    tell_found(answer, report)
+}
+
+// The outgoing messages of a line, written to `messages`. Reports the count.
+#[no_mangle]
+pub extern "C" fn pugdrel_messages(
+    degree: u64,
+    incoming: &[u8],
+    channel: &[u8],
+    filling: u64,
+    messages: &mut [u8],
+    report: &mut [u64],
+) -> u64
+    ensures { λ r. ⌜ MessagesTold degree (now (incoming .entry)) (now (channel .entry)) filling (now (messages .entry)) (now (messages .exit)) (now (report .entry)) (now (report .exit)) r ⌝ }
+{
+    let end = lent(report.len() == 1, incoming.len());
+    let answer = line_messages(degree, &incoming[..end], channel, filling, messages);
+    let numbers = [sent_count(answer)];
+    tell(&numbers, report);
+    sent_refusal(answer)
+}
