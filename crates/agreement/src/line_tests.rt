@@ -1,21 +1,21 @@
 // The three line entries against the second implementation, on lines near codewords and on lines far from any.
-use crate::chance::below;
-use crate::chance::filling_word;
-use crate::counting::OWN;
-use crate::counting::count_if;
-use crate::counting::mix_cells;
-use crate::counting::note;
-use crate::counting::same;
-use crate::counting::tick_if;
-use crate::damage::change_some;
-use crate::damage::erase;
-use crate::damage::flip_some;
-use crate::damage::some_erasures;
-use crate::encoding::encode_line;
-use crate::lines;
-use crate::powers::cells_of;
+use second::chance::below;
+use second::chance::filling_word;
+use second::counting::OWN;
+use second::counting::count_if;
+use second::counting::mix_cells;
+use second::counting::note;
+use second::counting::same;
+use second::counting::tick_if;
+use second::damage::change_some;
+use second::damage::erase;
+use second::damage::flip_some;
+use second::damage::some_erasures;
+use second::encoding::encode_line;
+use second::lines;
+use second::powers::cells_of;
 use crate::proved;
-use crate::words;
+use second::words;
 
 // The cells that the second implementation and a proved entry leave, all 64 of the room, and whether the numbers agree too.
 fn note_line(

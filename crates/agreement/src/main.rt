@@ -1,30 +1,20 @@
-// A second implementation of document 01, written from its definitions, and the proved entries compared with it on many lines and
-// arrays made by chance. It prints totals: one disagreement changes them, and so does any change of a result.
+// The proved entries compared with the second implementation of document 01, which is the crate `second`, on many lines and arrays
+// made by chance. It prints totals: one disagreement changes them, and so does any change of a result.
 mod array_tests;
-mod arrays;
-mod chance;
-mod counting;
-mod damage;
-mod encoding;
 mod line_tests;
-mod lines;
-mod parts;
-mod powers;
 mod printing;
 mod proved;
 mod refusal_tests;
 mod sheet_tests;
-mod sheets;
-mod words;
 
 use crate::array_tests::test_decoding;
 use crate::array_tests::test_others;
-use crate::encoding::make_settings;
+use second::encoding::make_settings;
 use crate::line_tests::test_lines;
 use crate::printing::say;
 use crate::refusal_tests::test_refusals;
 use crate::sheet_tests::test_texts;
-use crate::words::make_weights;
+use second::words::make_weights;
 
 // Words and lines of a degree.
 fn run_lines(degree: u64, many: usize, weights: &[u16; 64], settings: &[usize; 4096]) {

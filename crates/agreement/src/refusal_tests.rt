@@ -1,12 +1,12 @@
 // Every refusal of every entry: each test failing alone and together with later ones, which gives the lower number. A refused
 // call leaves every lent cell as it was, and reports no number.
-use crate::arrays::area_of;
-use crate::counting::OWN;
-use crate::counting::note;
-use crate::counting::same;
-use crate::counting::tick_if;
-use crate::encoding::message_area;
-use crate::powers::cells_of;
+use second::arrays::area_of;
+use second::counting::OWN;
+use second::counting::note;
+use second::counting::same;
+use second::counting::tick_if;
+use second::encoding::message_area;
+use second::powers::cells_of;
 use crate::proved;
 ghost use Prim.Native.Nat.{_≤_, _<_};
 

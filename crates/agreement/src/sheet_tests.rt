@@ -1,18 +1,18 @@
 // The text of `sheet` for good inputs and for inputs that are spoilt in each way.
 use crate::array_tests::make_sent;
-use crate::chance::below;
-use crate::counting::OWN;
-use crate::counting::mix_cells;
-use crate::counting::note;
-use crate::counting::same;
-use crate::counting::tick_if;
-use crate::damage::KINDS;
-use crate::damage::damage_array;
-use crate::powers::cells_of;
+use second::chance::below;
+use second::counting::OWN;
+use second::counting::mix_cells;
+use second::counting::note;
+use second::counting::same;
+use second::counting::tick_if;
+use second::damage::KINDS;
+use second::damage::damage_array;
+use second::powers::cells_of;
 use crate::proved;
-use crate::sheets::line_byte;
-use crate::sheets::lines_long;
-use crate::sheets::sheet_text;
+use second::sheets::line_byte;
+use second::sheets::lines_long;
+use second::sheets::sheet_text;
 ghost use Prim.Native.Nat.{_≤_, _<_};
 
 // The good input of an array; the bytes past its end are newlines. Gives its length.

@@ -1,0 +1,25 @@
+-- `arrays::copy_array` is safe and ends: the measure is the turns left. Assumes nothing.
+use Prim.Native.Nat.{_≤_, _-_}
+use borrow.Author.Needs.{needs}
+use Rattle.second.proofs.arrays.copy_array.Statement.{statement}
+use Rattle.second.proofs.arrays.copy_array.Tie as tie
+
+abbrev Inv-loop : tie.InvT-loop
+Inv-loop from to₀ i₀ to i = i ≤ 4096
+
+abbrev μ-loop : tie.MeasureT-loop
+μ-loop from to₀ i₀ to i = 4096 - i
+
+pub copy-array-spec : {M : Type 1} → statement M
+copy-array-spec =
+    tie.close
+    (tie.spec
+    Inv-loop
+    μ-loop
+    (λ c. search needs)
+    (λ c. search needs)
+    (λ c. search needs)
+    (λ c. search needs)
+    (λ c. search needs)
+    (λ c. search needs)
+    (λ c. search needs))

@@ -1,0 +1,28 @@
+-- `damage::scatter` is safe and ends: the measure is the turns left. Assumes nothing.
+use Prim.Native.Nat.{_≤_, _-_}
+use borrow.Author.Needs.{needs}
+use Rattle.second.proofs.damage.scatter.Statement.{statement}
+use Rattle.second.proofs.damage.scatter.Tie as tie
+
+abbrev Inv-loop : tie.InvT-loop
+Inv-loop n wrong unsure state₀ cells₀ area i₀ state cells i = i ≤ area
+
+abbrev μ-loop : tie.MeasureT-loop
+μ-loop n wrong unsure state₀ cells₀ area i₀ state cells i = area - i
+
+pub scatter-spec : {M : Type 1} → statement M
+scatter-spec =
+    tie.close
+    (tie.spec
+    Inv-loop
+    μ-loop
+    (λ c κs. search needs)
+    (λ c. search needs)
+    (λ c κs. search needs)
+    (λ c. search needs)
+    (λ c κs. search needs)
+    (λ c. search needs)
+    (λ c. search needs)
+    (λ c. search needs)
+    (λ c. search needs)
+    (λ c. search needs))

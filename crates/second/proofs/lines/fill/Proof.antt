@@ -1,0 +1,28 @@
+-- `lines::fill` is safe and ends: the measure is the turns left. Assumes nothing.
+use Prim.Native.Nat.{_≤_, _-_}
+use borrow.Author.Needs.{needs}
+use Rattle.second.proofs.lines.fill.Statement.{statement}
+use Rattle.second.proofs.lines.fill.Tie as tie
+
+abbrev Inv-loop : tie.InvT-loop
+Inv-loop n line filling word₀ i₀ word i = i ≤ n
+
+abbrev μ-loop : tie.MeasureT-loop
+μ-loop n line filling word₀ i₀ word i = n - i
+
+pub fill-spec : {M : Type 1} → statement M
+fill-spec =
+    tie.close
+    (tie.spec
+    Inv-loop
+    μ-loop
+    (λ c. search needs)
+    (λ c. search needs)
+    (λ c. search needs)
+    (λ c. search needs)
+    (λ c. search needs)
+    (λ c. search needs)
+    (λ c. search needs)
+    (λ c. search needs)
+    (λ c. search needs)
+    (λ c. search needs))
