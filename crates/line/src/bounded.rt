@@ -97,8 +97,6 @@ pub fn counted(d: Degree, word: Word, count: u64, tables: &LineTables) -> Tally
     ensures { λ r. ⌜ (r .count ≡ count + 1) × ((ws : List ℕ) → PacksWord (size d) ws (value word) → Answers (size d) (bounded d ws) (r .tried)) ⌝ }
 {
     let tried = bounded_word(d, word, tables);
-    Tally {
-        tried,
-        count: count + 1,
-    }
+    let next = count + 1;
+    Tally { tried, count: next }
 }
