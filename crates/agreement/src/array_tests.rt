@@ -1,4 +1,5 @@
 // Whole arrays: encoding, taking the message out, looking up rows and decoding, against the second implementation.
+use crate::proved;
 use second::arrays::area_of;
 use second::arrays::array_erasures;
 use second::arrays::decode;
@@ -19,7 +20,6 @@ use second::encoding::encode_array;
 use second::encoding::extract;
 use second::encoding::message_area;
 use second::powers::cells_of;
-use crate::proved;
 ghost use Prim.Native.Nat.{_≤_, _<_};
 
 // The array of a message by chance.

@@ -1,4 +1,5 @@
 // The three line entries against the second implementation, on lines near codewords and on lines far from any.
+use crate::proved;
 use second::chance::below;
 use second::chance::filling_word;
 use second::counting::OWN;
@@ -14,7 +15,6 @@ use second::damage::some_erasures;
 use second::encoding::encode_line;
 use second::lines;
 use second::powers::cells_of;
-use crate::proved;
 use second::words;
 
 // The cells that the second implementation and a proved entry leave, all 64 of the room, and whether the numbers agree too.

@@ -9,11 +9,11 @@ mod sheet_tests;
 
 use crate::array_tests::test_decoding;
 use crate::array_tests::test_others;
-use second::encoding::make_settings;
 use crate::line_tests::test_lines;
 use crate::printing::say;
 use crate::refusal_tests::test_refusals;
 use crate::sheet_tests::test_texts;
+use second::encoding::make_settings;
 use second::words::make_weights;
 
 // Words and lines of a degree.

@@ -1,12 +1,12 @@
 // Every call of a proved entry stands here, and nothing else of the proved crates is used: their answers are turned into
 // document 01's numbers, to be compared with. Each slice comes with the number of its first cells that are lent to the entry.
-use second::parts::first;
-use second::parts::first_mut;
-use second::parts::first_words;
 use array::entry::DecodeAnswer;
 use line::entry::LineAnswer;
 use line::entry::MessagesAnswer;
 use line::refusals::Refusal;
+use second::parts::first;
+use second::parts::first_mut;
+use second::parts::first_words;
 
 fn number(why: Refusal) -> u64 {
     match why {

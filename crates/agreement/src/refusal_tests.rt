@@ -1,5 +1,6 @@
 // Every refusal of every entry: each test failing alone and together with later ones, which gives the lower number. A refused
 // call leaves every lent cell as it was, and reports no number.
+use crate::proved;
 use second::arrays::area_of;
 use second::counting::OWN;
 use second::counting::note;
@@ -7,7 +8,6 @@ use second::counting::same;
 use second::counting::tick_if;
 use second::encoding::message_area;
 use second::powers::cells_of;
-use crate::proved;
 ghost use Prim.Native.Nat.{_≤_, _<_};
 
 // A call is given by one number, whose digits choose the degree, the lengths and so on. Digit 0 is always right.

@@ -1,5 +1,6 @@
 // The text of `sheet` for good inputs and for inputs that are spoilt in each way.
 use crate::array_tests::make_sent;
+use crate::proved;
 use second::chance::below;
 use second::counting::OWN;
 use second::counting::mix_cells;
@@ -9,7 +10,6 @@ use second::counting::tick_if;
 use second::damage::KINDS;
 use second::damage::damage_array;
 use second::powers::cells_of;
-use crate::proved;
 use second::sheets::line_byte;
 use second::sheets::lines_long;
 use second::sheets::sheet_text;
