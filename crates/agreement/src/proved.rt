@@ -75,7 +75,7 @@ pub fn line_messages(
             refusal: number(why),
             count: 0,
         },
-        MessagesAnswer::Sent(count) => MessagesResult {
+        MessagesAnswer::Written(count) => MessagesResult {
             refusal: 0,
             count: count,
         },

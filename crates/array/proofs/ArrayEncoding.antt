@@ -16,9 +16,9 @@ use Rattle.line.specs.Codeword.{Codeword}
 use Rattle.line.proofs.CellLaws.{Bits}
 use Rattle.array.specs.Arrays.{line, lines, transpose}
 use Rattle.line.specs.Encoding.{checkSize, messageSize, encodeLine, messageOf}
-use Rattle.array.specs.Encoding.{encodeLines, encodeArray, columnsFirst, extracted, ProductCodeword}
+use Rattle.array.specs.Encoding.{encodeLines, encodeArray, columnsFirst, extracted, Holds, ProductCodeword, OneArray}
 use Rattle.array.proofs.ArrayLaws.{Even, each-cell, line-at, length-line, line-small, length-transpose, transpose-at, transpose-cells, transpose-transpose, length-lines, line-lines, lines-are, array-ext}
-use Rattle.laws.specs.Sums.{xorTo}
+use Rattle.laws.specs.working.Sums.{xorTo}
 use Rattle.laws.proofs.Linear.{one, to-cong, to-swap, to-map, sum-to, times-adds}
 use Rattle.line.proofs.LineEncoding.{inverse, message-at, length-message, line-codeword, line-holds, line-only, summed}
 
@@ -228,3 +228,20 @@ module _ (d : Degree) where
     -- so it is the only one that holds the message
     pub encode-only : (m : List ℕ) → extracted d s ≡ m → s ≡ encodeArray d m
     encode-only m e = encode-extract ∙ ap (encodeArray d) e
+
+  -- ---- demand 2
+
+  -- an array that holds a message, cell by cell, has it taken out of it
+  holds-out : (s m : List ℕ) → length s ≡ n * n → length m ≡ k * k → Holds d s m → extracted d s ≡ m
+  holds-out s m l lm H = array-ext k k (extracted d s) m (extract-length s l) lm (λ i j h q. extract-at s l i j h q ∙ H i j h q)
+
+  -- encoding gives the one array that holds the message and has a codeword in each row and column
+  pub encode-one : (m : List ℕ) → IsWord (k * k) m → OneArray d m (encodeArray d m)
+  encode-one m M =
+      record {
+        codewords = encode-codeword m M;
+        holds = λ i j h q.
+            sym (extract-at (encodeArray d m) (encode-length m M) i j h q) ∙ ap (λ (w : List ℕ). getD w (i * k + j) 0) (encode-holds m M);
+        only = λ s S H. encode-only s S m (holds-out s m (S .whole) (M .long) H);
+        back = encode-holds m M;
+      }

@@ -14,17 +14,17 @@ use Rattle.degree.specs.Degree.{size}
 use Rattle.line.specs.Bounded.{bounded}
 use Rattle.line.specs.Decoding.{messages}
 use Rattle.line.specs.Clauses.{count as countOf}
-use Rattle.line.specs.Packed.{Packs}
-use Rattle.line.specs.Rows.{Updated}
-use Rattle.line.specs.SentRows.{SentRow}
+use Rattle.line.specs.working.Packed.{Packs}
+use Rattle.line.specs.working.Rows.{Updated}
+use Rattle.line.specs.working.SentRows.{SentRow}
 use Rattle.line.specs.declared.packed.Line.{Line}
-use Rattle.line.specs.declared.decoding.Sent.{Sent}
+use Rattle.line.specs.declared.decoding.LineTally.{LineTally}
 use Rattle.line.proofs.LineLaw.{messages-line}
 use Rattle.line.proofs.RowLaws.{size-room, size-eights}
-use Rattle.array.specs.Arrays.{line, withLine, transpose}
+use Rattle.array.specs.Arrays.{line, transpose}
+use Rattle.array.specs.working.PackedRows.{withLine, Held, LineIn, LinePut, RowsTurned}
 use Rattle.array.specs.Halves.{rowHalf, rowCount, columnHalf, columnCount}
-use Rattle.array.specs.PackedRows.{Held, LineIn, LinePut, RowsTurned}
-use Rattle.array.specs.Steps.{IsArray, StepDone}
+use Rattle.array.specs.working.Steps.{IsArray, StepDone}
 use Rattle.array.proofs.ArrayLaws.{Even, length-line, line-cells, lines-are}
 use Rattle.array.proofs.PackedLaws.{soFar, far-start, far-line, far-next, far-end, line-lent, line-back, next-place, row-room}
 
@@ -34,8 +34,8 @@ use Rattle.array.proofs.PackedLaws.{soFar, far-start, far-line, far-nex
 abbrev sent : Degree → List ℕ → List ℕ → List ℕ → ℕ → List ℕ
 sent d m r w i = messages (bounded d) (line (size d) m i) (line (size d) r i) (getD w i 0)
 
-abbrev sentCount : Degree → List ℕ → List ℕ → List ℕ → ℕ → ℕ
-sentCount d m r w i = countOf (bounded d) (line (size d) m i) (line (size d) r i) (getD w i 0)
+abbrev messagesCount : Degree → List ℕ → List ℕ → List ℕ → ℕ → ℕ
+messagesCount d m r w i = countOf (bounded d) (line (size d) m i) (line (size d) r i) (getD w i 0)
 
 -- i lines of m are done: the array s, packed, and the count
 pub record HalfAt (d : Degree) (m r w s rows : List ℕ) (count i : ℕ) : Type 0 where
@@ -43,7 +43,7 @@ pub record HalfAt (d : Degree) (m r w s rows : List ℕ) (count i : ℕ) : Type 
   pub channel : IsArray d r
   pub cells : s ≡ soFar (size d) (sent d m r w) m i
   pub held : Held (size d) s rows
-  pub sum : count ≡ sumTo (sentCount d m r w) i
+  pub sum : count ≡ sumTo (messagesCount d m r w) i
 
 half-start : {d : Degree} {m r rows : List ℕ} (w : List ℕ) → Held (size d) m rows → IsArray d r → HalfAt d m r w m rows 0 0
 unfolding sumTo
@@ -59,7 +59,7 @@ module _ {d : Degree} {m r w s rows : List ℕ} {count i : ℕ} (k : HalfAt d m 
     half-line = rw (k .cells) (far-line (size d) (sent d m r w) m i even)
 
     -- it is done: its messages, packed, and its count
-    half-next : {v : Sent} {rows′ : List ℕ} → Packs (size d) (sent d m r w i) (v .line) → v .count ≡ sentCount d m r w i → LinePut rows i (v .line) rows′
+    half-next : {v : LineTally} {rows′ : List ℕ} → Packs (size d) (sent d m r w i) (v .line) → v .count ≡ messagesCount d m r w i → LinePut rows i (v .line) rows′
         → HalfAt d m r w (withLine (size d) s i (sent d m r w i)) rows′ (count + v .count) (i + 1)
     unfolding sumTo
     half-next p c put = record {
@@ -112,7 +112,7 @@ module _ {d : Degree} {m rows₀ channel w s rows : List ℕ} {count i at n : �
     pub rows-lent : length (take (at + n - at) (drop at s)) % 8 ≡ 0
     rows-lent = rw (lent, length-line (size d) (size d) s i inside (k .long)) (size-eights d)
 
-    pub rows-next : {o l : Line} {y rows′ : List ℕ} {v : Sent} → LineIn rows i o → LineIn channel i l
+    pub rows-next : {o l : Line} {y rows′ : List ℕ} {v : LineTally} → LineIn rows i o → LineIn channel i l
         → SentRow d o l (getD w i 0) (take (at + n - at) (drop at s)) y v → LinePut rows i (v .line) rows′
         → RowsAt d m rows₀ channel w (putMid at (at + n - at) s y) rows′ (count + v .count) (i + 1) (at + n)
     rows-next {o} {l} {y} {rows′} {v} f g q put = record {
@@ -127,7 +127,7 @@ module _ {d : Degree} {m rows₀ channel w s rows : List ℕ} {count i at n : �
           let p : Packs (size d) (line (size d) r i) l = g (size d) r channel inside in
           let a : y ≡ sent d m r w i = rw is at (q .cells (line (size d) r i) x p) in
           let b : Packs (size d) (sent d m r w i) (v .line) = rw is at (q .line (line (size d) r i) x p) in
-          let c : v .count ≡ sentCount d m r w i = rw is at (q .count (line (size d) r i) x p) in
+          let c : v .count ≡ messagesCount d m r w i = rw is at (q .count (line (size d) r i) x p) in
           rw (e, a, line-back (size d) i at s (k .place)) (half-next t inside b c put);
     }
 
@@ -151,7 +151,7 @@ pub columns-start : {d : Degree} (columns channel w : List ℕ) → ColumnsAt d 
 columns-start columns channel w = record { low = omega arith; small = omega arith; done = λ m r k c. again (half-start w k (c .array)) }
 
 module _ {d : Degree} {columns₀ channel w columns : List ℕ} {count i n : ℕ} (k : ColumnsAt d columns₀ channel w columns count i) (e : n ≡ size d) where
-  pub columns-next : {y l : Line} {columns′ : List ℕ} {v : Sent} → i < n → LineIn columns i y → LineIn channel i l
+  pub columns-next : {y l : Line} {columns′ : List ℕ} {v : LineTally} → i < n → LineIn columns i y → LineIn channel i l
       → (v .count ≤ 130) × ((ys rs : List ℕ) → Packs (size d) ys y → Packs (size d) rs l → Packs (size d) (messages (bounded d) ys rs (getD w i 0)) (v .line) × (v .count ≡ countOf (bounded d) ys rs (getD w i 0)))
       → LinePut columns i (v .line) columns′ → ColumnsAt d columns₀ channel w columns′ (count + v .count) (i + 1)
   columns-next {y} {l} {columns′} {v} h f g q put = record {

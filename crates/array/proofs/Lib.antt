@@ -8,6 +8,7 @@ mod PackedLaws
 mod HalfLaws
 mod RunLaws
 mod ReportLaws
+mod EncodeLaws
 mod DecodeLaws
 pub mod Theorem
 pub mod SentArrays

@@ -13,17 +13,17 @@ use lib.Bits.{bitXor}
 use lib.Dec.{eqb}
 use lib.ListN.{length, take, drop, getD, set, length-set, length-drop, drop-of-length-le}
 use lib.Seq.{length-take-le, getD-take, getD-drop, ext-getD, take-at, drop-at, drop-drop, getD-set-same, getD-set-other}
-use Rattle.laws.specs.Bits.{bitAt}
+use Rattle.laws.specs.working.Bits.{bitAt}
 use Rattle.laws.proofs.Bits.{bit-at-lt}
 use Rattle.laws.specs.Digits.{digits}
 use Rattle.degree.specs.declared.Degree.{Degree}
 use Rattle.degree.specs.Degree.{size}
 use Rattle.line.specs.Cells.{IsWord}
-use Rattle.line.specs.Packed.{PacksWord}
+use Rattle.line.specs.working.Packed.{PacksWord}
 use Rattle.line.specs.Encoding.{messageSize, encodeLine}
 use Rattle.array.specs.Arrays.{line, lines}
-use Rattle.array.specs.EncodedRows.{EncodedRows, rowWord}
-use Rattle.laws.specs.Sums.{xorTo}
+use Rattle.array.specs.working.EncodedRows.{EncodedRows, rowWord}
+use Rattle.laws.specs.working.Sums.{xorTo}
 use Rattle.array.proofs.ArrayLaws.{Even, line-at, line-cells, length-line, length-lines, line-room}
 use Rattle.line.proofs.Bounds.{square-le, message-le}
 use Rattle.laws.proofs.DigitSums.{digits-length}

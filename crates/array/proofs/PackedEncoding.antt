@@ -7,21 +7,22 @@ use Prim.Native.Nat.{ℕ, _+_, _*_, _^_, _<_}
 use native.Mathlib.Nat.{mul-comm}
 use native.Mathlib.Omega.{arith}
 use lib.ListN.{getD}
-use Rattle.laws.specs.Bits.{bitAt}
-use Rattle.laws.specs.Digits.{digits, pack}
-use Rattle.laws.specs.Sums.{xorTo}
+use Rattle.laws.specs.working.Bits.{bitAt}
+use Rattle.laws.specs.Digits.{digits}
+use Rattle.laws.specs.working.Digits.{pack}
+use Rattle.laws.specs.working.Sums.{xorTo}
 use Rattle.laws.proofs.Bits.{bit-one}
 use Rattle.laws.proofs.Linear.{one, times-adds, shift-adds, digits-pack, to-cong, to-swap, to-map, sum-to}
 use Rattle.degree.specs.declared.Degree.{Degree}
 use Rattle.degree.specs.Degree.{size}
 use Rattle.line.specs.Cells.{IsWord}
 use Rattle.line.specs.Encoding.{messageSize, encodeLine}
-use Rattle.line.specs.Units.{Units}
+use Rattle.line.specs.working.Units.{Units}
 use Rattle.line.proofs.LineEncoding.{summed}
 use Rattle.line.proofs.UnitLaws.{pack-packs, unit-bit}
 use Rattle.array.specs.Arrays.{line, lines}
 use Rattle.array.specs.Encoding.{encodeLines, encodeArray, ProductCodeword}
-use Rattle.array.specs.EncodedRows.{EncodedRows, rowWord}
+use Rattle.array.specs.working.EncodedRows.{EncodedRows, rowWord}
 use Rattle.array.proofs.ArrayLaws.{line-at, lines-are}
 use Rattle.array.proofs.ArrayEncoding.{line-coded, encoded-line, cell-rows, encode-codeword}
 

@@ -16,16 +16,16 @@ use lib.Seq.{length-take-le, drop-drop, drop-at, take-at, take-take, take-add, d
 use Rattle.degree.specs.declared.Degree.{Degree}
 use Rattle.degree.specs.Degree.{size}
 use Rattle.laws.specs.Bits.{bit}
-use Rattle.line.specs.Cells.{IsLine, isOne, isErased}
-use Rattle.line.specs.Packed.{packBy, Packs}
+use Rattle.line.specs.working.Packed.{IsLine, isOne, packBy, Packs}
+use Rattle.line.specs.Cells.{isErased}
 use Rattle.line.specs.declared.packed.Line.{Line}
-use Rattle.line.specs.Word.{value}
+use Rattle.line.specs.working.Word.{value}
 use Rattle.line.proofs.RowLaws.{size-room, size-eights}
-use Rattle.words.specs.Network.{Turned}
+use Rattle.words.specs.working.Network.{Turned}
 use Rattle.words.proofs.ZeroLaws.{Zeros, zeros-turned}
-use Rattle.array.specs.Arrays.{line, withLine, lines}
-use Rattle.array.specs.PackedRows.{RowWords, Held, LineIn, LinePut, BlocksTurned, RowsTurned}
-use Rattle.array.specs.Steps.{IsArray}
+use Rattle.array.specs.Arrays.{line, lines}
+use Rattle.array.specs.working.PackedRows.{withLine, RowWords, Held, LineIn, LinePut, BlocksTurned, RowsTurned}
+use Rattle.array.specs.working.Steps.{IsArray}
 use Rattle.array.proofs.ArrayLaws.{Even, line-room, length-line, line-small, line-cells, transpose-cells, each-cell, line-at, length-lines, lines-are}
 use Rattle.array.proofs.WordLaws.{words-turned}
 

@@ -16,11 +16,12 @@ use Rattle.degree.specs.Degree.{bits, size, named}
 use Rattle.line.specs.declared.refusals.Call.{Call}
 use Rattle.line.specs.Cells.{IsWord}
 use Rattle.line.specs.Encoding.{messageSize}
-use Rattle.line.specs.Refusals.{refusal, Tested, misfit, atMost}
+use Rattle.line.specs.Refusals.{refusal, misfit, atMost}
+use Rattle.line.specs.working.Calls.{Tested}
 use Rattle.line.proofs.Bounds.{square-le, size-le}
 use Rattle.line.proofs.Refusing.{or-none, some-none, fits, cells-small, known-bits, known-size, bits-named, none-applies, tested-known}
 use Rattle.array.specs.Arrays.{line}
-use Rattle.array.specs.Steps.{IsArray}
+use Rattle.array.specs.working.Steps.{IsArray}
 use Rattle.array.specs.Refusals.{messageCells, encodeTests, extractTests, rowTests, decodeTests}
 use Rattle.array.proofs.ArrayLaws.{line-room}
 

@@ -16,18 +16,18 @@ use Rattle.degree.specs.declared.Degree.{Degree}
 use Rattle.degree.specs.Degree.{size}
 use Rattle.line.specs.Cells.{cell, bit, isErased, erasures}
 use Rattle.line.specs.Codeword.{isCodeword}
-use Rattle.line.specs.Packed.{Packs, PacksWord}
+use Rattle.line.specs.working.Packed.{Packs, PacksWord}
 use Rattle.line.specs.declared.packed.Line.{Line}
 use Rattle.line.specs.declared.word.Word.{Word}
-use Rattle.line.specs.Word.{value}
+use Rattle.line.specs.working.Word.{value}
 use Rattle.line.proofs.CellLaws.{erased-or-known}
 use Rattle.line.proofs.RowLaws.{size-room}
 use Rattle.array.specs.declared.report.Report.{Report}
 use Rattle.array.specs.Arrays.{line, transpose}
-use Rattle.array.specs.PackedRows.{Held, LineIn, RowsTurned}
+use Rattle.array.specs.working.PackedRows.{Held, LineIn, RowsTurned}
 use Rattle.array.specs.Plain.{plain, plainCount, closed}
-use Rattle.array.specs.Steps.{StepDone}
-use Rattle.array.specs.Runs.{IsFull, Started, Told, Decoded}
+use Rattle.array.specs.working.Steps.{StepDone}
+use Rattle.array.specs.working.Runs.{IsFull, Started, Told, DecodingDone}
 use Rattle.array.proofs.ArrayLaws.{line-cells, transpose-cells}
 
 -- ---- erasures, a line a turn
@@ -130,7 +130,7 @@ told-full d {rows} {columns} {t} {k} {b} e z s f m h =
 -- the iterations start from the array that is the channel's, its rows and columns packed; what they leave is told
 pub decoded : (d : Degree) (l : ℕ) (r w : List ℕ) {m s rows across down left : List ℕ} {count : ℕ} {t : Report} → m ≡ r → Held (size d) r across → RowsTurned across down → rows ≡ across
     → ((r : List ℕ) → Started (size d) m r rows across down → StepDone (size d) (plain d l m r w) (plainCount d l m r w) s left count)
-    → ((m : List ℕ) → Held (size d) m left → Told d m count t) → Decoded d l r w s t
+    → ((m : List ℕ) → Held (size d) m left → Told d m count t) → DecodingDone d l r w s t
 decoded d l r w {m} e h turned same run told =
     let k = run r (record { held = rw (e, same) h; across = h; down = turned (size d) r h }) in
     let f = rw e at (k .cells) in

@@ -13,10 +13,10 @@ use Rattle.degree.specs.Degree.{size}
 use Rattle.line.proofs.RowLaws.{size-room}
 use Rattle.array.specs.Arrays.{transpose}
 use Rattle.array.specs.Halves.{rowHalf, columnHalf, rowCount, columnCount}
-use Rattle.array.specs.PackedRows.{Held}
+use Rattle.array.specs.working.PackedRows.{Held}
 use Rattle.array.specs.Plain.{plain, plainCount}
-use Rattle.array.specs.Steps.{StepDone}
-use Rattle.array.specs.Runs.{Started}
+use Rattle.array.specs.working.Steps.{StepDone}
+use Rattle.array.specs.working.Runs.{Started}
 
 -- the rest of a slice from a place on, as a lent part gives it
 abbrev restFrom : ℕ → List ℕ → List ℕ

@@ -8,31 +8,32 @@ use mathlib.Core.List.{List}
 use Prim.Native.Nat.{ℕ, _*_, _<_}
 use Rattle.degree.specs.declared.Degree.{Degree}
 use Rattle.degree.specs.Degree.{size}
-use Rattle.line.specs.Cells.{IsLine, erasures}
+use Rattle.line.specs.working.Packed.{IsLine}
+use Rattle.line.specs.Cells.{erasures}
 use Rattle.array.specs.Plain.{plain, closed, RowCondition}
-use Rattle.array.specs.Encoding.{extracted, ProductCodeword, Sent}
+use Rattle.array.specs.Encoding.{extracted, ProductCodeword, SentArray}
 use Rattle.array.proofs.Theorem.{sent-known, sent-closed, array-theorem}
 use Rattle.array.proofs.ArrayEncoding.{encode-codeword, encode-holds, encode-extract, extract-word}
 
 module _ (d : Degree) where
-  pub sent-codeword : {s : List ℕ} → Sent d s → ProductCodeword d s
+  pub sent-codeword : {s : List ℕ} → SentArray d s → ProductCodeword d s
   sent-codeword S = rw (S .is) (encode-codeword d (S .message) (S .bits))
 
-  pub codeword-sent : {s : List ℕ} → ProductCodeword d s → Sent d s
+  pub codeword-sent : {s : List ℕ} → ProductCodeword d s → SentArray d s
   codeword-sent {s} S = record { message = extracted d s; bits = extract-word d s S; is = encode-extract d s S }
 
   -- a sent array is known by its message
-  pub sent-message : {s : List ℕ} (S : Sent d s) → extracted d s ≡ S .message
+  pub sent-message : {s : List ℕ} (S : SentArray d s) → extracted d s ≡ S .message
   sent-message S = ap (extracted d) (S .is) ∙ encode-holds d (S .message) (S .bits)
 
   -- what the plain decoding leaves
-  pub record Decoded (s m : List ℕ) : Type 0 where
+  pub record EndsWith (s m : List ℕ) : Type 0 where
     pub cells : m ≡ s
     pub known : erasures m ≡ 0
     pub closing : closed d m ≡ true
 
-  pub sent-theorem : (s r : List ℕ) (l : ℕ) (w : List ℕ) → Sent d s → IsLine (size d * size d) r → 0 < l → RowCondition d r s
-      → Decoded s (plain d l r r w)
+  pub sent-theorem : (s r : List ℕ) (l : ℕ) (w : List ℕ) → SentArray d s → IsLine (size d * size d) r → 0 < l → RowCondition d r s
+      → EndsWith s (plain d l r r w)
   sent-theorem s r l w S R h c =
       let C = sent-codeword S in
       let e = array-theorem d s C r R l w h c in

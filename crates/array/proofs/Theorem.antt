@@ -13,7 +13,8 @@ use Rattle.laws.specs.Sums.{sumTo}
 use Rattle.laws.specs.Tests.{every}
 use Rattle.degree.specs.declared.Degree.{Degree}
 use Rattle.degree.specs.Degree.{size}
-use Rattle.line.specs.Cells.{IsLine, IsWord, erasures}
+use Rattle.line.specs.working.Packed.{IsLine}
+use Rattle.line.specs.Cells.{IsWord, erasures}
 use Rattle.line.specs.Codeword.{isCodeword}
 use Rattle.line.specs.Bounded.{bounded}
 use Rattle.line.specs.Decoding.{messages}

@@ -11,11 +11,12 @@ use native.Mathlib.Omega.{arith}
 use lib.ListN.{length, take, getD, length-take, List·getD-eq-default, drop-of-length-le}
 use lib.Pow.{pow-mono}
 use lib.Seq.{take-nil}
-use Rattle.laws.specs.Bits.{bit, bitAt}
-use Rattle.line.specs.Packed.{packBy}
-use Rattle.line.proofs.Words.{packBy-lt, packBy-bit}
+use Rattle.laws.specs.Bits.{bit}
+use Rattle.laws.specs.working.Bits.{bitAt}
+use Rattle.line.specs.working.Packed.{packBy}
+use Rattle.line.proofs.PackBits.{packBy-lt, packBy-bit}
 use Rattle.array.specs.Arrays.{line, transpose}
-use Rattle.array.specs.PackedRows.{RowWords}
+use Rattle.array.specs.working.PackedRows.{RowWords}
 use Rattle.array.proofs.ArrayLaws.{line-at, length-transpose, transpose-at}
 use Rattle.laws.proofs.Bits.{bits-ext}
 

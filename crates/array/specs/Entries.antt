@@ -4,7 +4,7 @@
 use mathlib.Core.Path.{_≡_}
 use mathlib.Core.Bool.{Bool, true, false}
 use mathlib.Core.List.{List, []}
-use Prim.Native.Nat.{ℕ}
+use Prim.Native.Nat.{ℕ, _+_, _*_, _^_, _≤_}
 use Rattle.degree.specs.declared.Degree.{Degree}
 use Rattle.degree.specs.declared.Named.the-variants.{Known}
 use Rattle.degree.specs.Degree.{size, named}
@@ -13,7 +13,7 @@ use Rattle.line.specs.Refusals.{number, refusal, given}
 use Rattle.array.specs.declared.entry.DecodeAnswer.{DecodeAnswer}
 use Rattle.array.specs.declared.entry.DecodeAnswer.the-variants as answer
 use Rattle.array.specs.Arrays.{line}
-use Rattle.array.specs.Encoding.{encodeArray, extracted, Sent}
+use Rattle.array.specs.Encoding.{encodeArray, extracted, OneArray, SentArray}
 use Rattle.array.specs.Plain.{plain, plainCount, closed as closedIn, RowCondition}
 use Rattle.array.specs.Refusals.{encodeTests, extractTests, rowTests, decodeTests}
 
@@ -22,6 +22,8 @@ use Rattle.array.specs.Refusals.{encodeTests, extractTests, rowTests, de
 pub record Encoded (degree : ℕ) (message before after : List ℕ) (no : ℕ) : Type 0 where
   pub refusal : no ≡ refusal (encodeTests degree message before)
   pub cells : after ≡ given degree (encodeTests degree message before) (λ d. encodeArray d message) before
+  -- demand 2, of a call that is taken
+  pub one : (d : Degree) → no ≡ 0 → named degree ≡ Known d → OneArray d message after
 
 pub record Extracted (degree : ℕ) (cells before after : List ℕ) (no : ℕ) : Type 0 where
   pub refusal : no ≡ refusal (extractTests degree cells before)
@@ -58,8 +60,10 @@ closedOf (answer.Decoded t) = t .closed
 pub record DecodeDone (degree l : ℕ) (r w before after : List ℕ) (a : DecodeAnswer) : Type 0 where
   pub refusal : refusalOf a ≡ refusal (decodeTests degree l r w before [])
   pub count : countOf a ≡ given degree (decodeTests degree l r w before []) (λ d. plainCount d l r r w) 0
+  -- "at most n + 2 a line", of 2 l n lines
+  pub most : countOf a ≤ 2 * l * 2 ^ degree * (2 ^ degree + 2)
   pub erasures : erasuresOf a ≡ given degree (decodeTests degree l r w before []) (λ d. erasuresIn (plain d l r r w)) 0
   pub closed : closedOf a ≡ given degree (decodeTests degree l r w before []) (λ d. closedIn d (plain d l r r w)) false
   pub cells : after ≡ given degree (decodeTests degree l r w before []) (λ d. plain d l r r w) before
   -- demand 3, last sentence: for every sent array s near which each received row is, the cells left are those of s, and closed
-  pub sent : (d : Degree) (s : List ℕ) → refusalOf a ≡ 0 → named degree ≡ Known d → Sent d s → RowCondition d r s → (after ≡ s) × (closedOf a ≡ true)
+  pub sent : (d : Degree) (s : List ℕ) → refusalOf a ≡ 0 → named degree ≡ Known d → SentArray d s → RowCondition d r s → (after ≡ s) × (closedOf a ≡ true)

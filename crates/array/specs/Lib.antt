@@ -1,10 +1,7 @@
 pub mod Arrays
-pub mod PackedRows
 pub mod Encoding
 pub mod Refusals
-pub mod EncodedRows
 pub mod Halves
-pub mod Steps
 pub mod Plain
 pub mod Entries
-pub mod Runs
+pub mod working

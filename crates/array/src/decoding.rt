@@ -11,9 +11,9 @@ ghost use mathlib.Core.Path.{_≡_};
 ghost use Prim.Native.Nat.{_*_, _≤_};
 ghost use lib.ListN.{length};
 ghost use Rattle.degree.specs.Degree.{size};
-ghost use Rattle.line.specs.Tables.{TablesOf};
-ghost use Rattle.array.specs.Steps.{IsArray};
-ghost use Rattle.array.specs.Runs.{Decoded};
+ghost use Rattle.line.specs.working.Tables.{TablesOf};
+ghost use Rattle.array.specs.working.Steps.{IsArray};
+ghost use Rattle.array.specs.working.Runs.{DecodingDone};
 
 // Messages start as the channel's. The channel's rows and columns are packed once, for all iterations.
 pub fn decode_taken(
@@ -25,7 +25,7 @@ pub fn decode_taken(
     tables: &LineTables,
 ) -> Report
     requires { ⌜ IsArray d (now received) × (length (now cells) ≡ size d * size d) × (length (now filling) ≡ 2 * iterations * size d) × (iterations ≤ 20) × TablesOf d (now tables) ⌝ }
-    ensures { λ r. ⌜ Decoded d iterations (now (received .entry)) (now (filling .entry)) (now (cells .exit)) r ⌝ }
+    ensures { λ r. ⌜ DecodingDone d iterations (now (received .entry)) (now (filling .entry)) (now (cells .exit)) r ⌝ }
 {
     copy_cells(received, cells);
     let mut row_channel = [0u64; 128];

@@ -21,11 +21,11 @@ ghost use Rattle.degree.specs.Degree.{size};
 ghost use Rattle.laws.specs.Digits.{digits};
 ghost use Rattle.line.specs.Cells.{IsWord};
 ghost use Rattle.line.specs.Encoding.{messageSize};
-ghost use Rattle.line.specs.Units.{Units};
-ghost use Rattle.line.specs.Word.{value};
+ghost use Rattle.line.specs.working.Units.{Units};
+ghost use Rattle.line.specs.working.Word.{value};
 ghost use Rattle.array.specs.Arrays.{lines};
 ghost use Rattle.array.specs.Encoding.{encodeArray};
-ghost use Rattle.array.specs.EncodedRows.{EncodedRows, rowWord};
+ghost use Rattle.array.specs.working.EncodedRows.{EncodedRows, rowWord};
 ghost use Rattle.array.specs.Entries.{Encoded};
 
 // The words of the message rows.

@@ -16,11 +16,11 @@ ghost use mathlib.Core.List.{List};
 ghost use Prim.Native.Nat.{ℕ, _*_, _≤_};
 ghost use lib.ListN.{length};
 ghost use Rattle.degree.specs.Degree.{size};
-ghost use Rattle.line.specs.Tables.{TablesOf};
+ghost use Rattle.line.specs.working.Tables.{TablesOf};
 ghost use Rattle.array.specs.Arrays.{transpose};
 ghost use Rattle.array.specs.Halves.{rowHalf, columnHalf, rowCount, columnCount};
-ghost use Rattle.array.specs.PackedRows.{Held};
-ghost use Rattle.array.specs.Steps.{StepDone};
+ghost use Rattle.array.specs.working.PackedRows.{Held};
+ghost use Rattle.array.specs.working.Steps.{StepDone};
 
 // ---- rows
 

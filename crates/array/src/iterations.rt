@@ -10,10 +10,10 @@ ghost use mathlib.Core.List.{List};
 ghost use Prim.Native.Nat.{ℕ, _+_, _*_, _≤_};
 ghost use lib.ListN.{length};
 ghost use Rattle.degree.specs.Degree.{size};
-ghost use Rattle.line.specs.Tables.{TablesOf};
+ghost use Rattle.line.specs.working.Tables.{TablesOf};
 ghost use Rattle.array.specs.Plain.{plain, plainCount};
-ghost use Rattle.array.specs.Steps.{StepDone};
-ghost use Rattle.array.specs.Runs.{Started};
+ghost use Rattle.array.specs.working.Steps.{StepDone};
+ghost use Rattle.array.specs.working.Runs.{Started};
 
 fn iterate(
     d: Degree,

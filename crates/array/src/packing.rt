@@ -13,8 +13,8 @@ ghost use mathlib.Core.Path.{_≡_};
 ghost use Prim.Native.Nat.{_<_};
 ghost use lib.ListN.{length, replicate};
 ghost use Rattle.degree.specs.Degree.{size};
-ghost use Rattle.array.specs.PackedRows.{Held, LineIn, LinePut, BlocksTurned, RowsTurned};
-ghost use Rattle.array.specs.Steps.{IsArray};
+ghost use Rattle.array.specs.working.PackedRows.{Held, LineIn, LinePut, BlocksTurned, RowsTurned};
+ghost use Rattle.array.specs.working.Steps.{IsArray};
 
 // Words 0 to 63 are the ones of the rows, words 64 to 127 their erasures.
 pub type PackedRows = [u64; 128];

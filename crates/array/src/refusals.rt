@@ -9,7 +9,7 @@ use line::refusals::Refusal;
 use line::refusals::lent_test;
 ghost use mathlib.Core.List.{[]};
 ghost use Rattle.degree.specs.Degree.{bits};
-ghost use Rattle.line.specs.Refusals.{Tested};
+ghost use Rattle.line.specs.working.Calls.{Tested};
 ghost use Rattle.array.specs.Refusals.{encodeTests, extractTests, rowTests, decodeTests};
 
 pub fn encode_test(degree: u64, message: &[u8], cells: &[u8]) -> Call

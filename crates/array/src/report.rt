@@ -13,12 +13,12 @@ ghost use mathlib.Core.List.{List};
 ghost use Prim.Native.Nat.{ℕ};
 ghost use Rattle.laws.specs.Tests.{every};
 ghost use Rattle.degree.specs.Degree.{size};
-ghost use Rattle.line.specs.Tables.{TablesOf};
+ghost use Rattle.line.specs.working.Tables.{TablesOf};
 ghost use Rattle.line.specs.Cells.{erasures as erasuresIn};
 ghost use Rattle.line.specs.Codeword.{isCodeword};
 ghost use Rattle.array.specs.Arrays.{line};
-ghost use Rattle.array.specs.PackedRows.{Held};
-ghost use Rattle.array.specs.Runs.{IsFull, Told};
+ghost use Rattle.array.specs.working.PackedRows.{Held};
+ghost use Rattle.array.specs.working.Runs.{IsFull, Told};
 
 // The count of decodings, the cells still unsure, and whether the array is closed.
 pub struct Report {

@@ -16,8 +16,8 @@ use Rattle.degree.specs.declared.Degree.{Degree}
 use Rattle.degree.specs.Degree.{size, order}
 use Rattle.field.specs.Field.{timesPower, power}
 use Rattle.laws.specs.Digits.{sumOver, digits}
-use Rattle.field.specs.Tables.{Powers, Weights, Logs, Tables, weight}
-use Rattle.field.specs.Building.{Doubled, Block, Summed}
+use Rattle.field.specs.working.Tables.{Powers, Weights, Logs, Tables, weight}
+use Rattle.field.specs.working.Building.{Doubled, Block, Summed}
 use Rattle.field.proofs.Doubling.{times-add}
 use Rattle.field.proofs.Primitive.{primitive}
 use Rattle.laws.proofs.DigitSums.{sum-cong, digits-length, sum-digits-zero, sum-top}

@@ -13,8 +13,8 @@ use Rattle.field.specs.declared.locate.Positions.{Positions}
 use Rattle.field.specs.declared.locate.Positions.the-variants.{Zero, One, Two, Unfit}
 use Rattle.degree.specs.Degree.{order}
 use Rattle.field.specs.Field.{power}
-use Rattle.field.specs.Positions.{total, fitting, orElse, firstOf, located}
-use Rattle.field.specs.Fitting.{Within, Fits}
+use Rattle.field.specs.working.Positions.{total, fitting, orElse, firstOf, located}
+use Rattle.field.specs.working.Fitting.{Within, Fits}
 use Rattle.field.proofs.Uniqueness.{unique}
 
 -- is there an answer

@@ -13,7 +13,7 @@ use Rattle.laws.proofs.Tests.{and-left, and-right}
 use Rattle.degree.specs.declared.Degree.{Degree}
 use Rattle.degree.specs.Degree.{order}
 use Rattle.field.specs.Field.{double, timesPower}
-use Rattle.field.specs.Tables.{Powers}
+use Rattle.field.specs.working.Tables.{Powers}
 use Rattle.field.proofs.Doubling.{times-add}
 
 module _ (d : Degree) where

@@ -11,7 +11,8 @@ use Rattle.laws.proofs.Tests.{and-left, and-right, every, every-at}
 use Rattle.degree.specs.declared.Degree.{Degree}
 use Rattle.degree.specs.declared.Degree.the-variants.{Four, Six}
 use Rattle.degree.specs.Degree.{bits, size, order}
-use Rattle.field.specs.Field.{polynomial, double, timesPower, power, productOf}
+use Rattle.field.specs.Field.{polynomial, double, timesPower, power}
+use Rattle.field.specs.working.Products.{productOf}
 
 pub record Primitive (d : Degree) : Type 0 where
   -- doubling an element gives an element

@@ -10,7 +10,8 @@ use lib.Bits.{bitXor, xor-self, xor-zero-r, xor-shr}
 use Rattle.laws.proofs.Xor.{xors, bit-ind, digit-lt, xor-digit, xor-scale, scale-xor}
 use Rattle.degree.specs.declared.Degree.{Degree}
 use Rattle.degree.specs.Degree.{bits, size}
-use Rattle.field.specs.Field.{polynomial, double, timesPower, power, productOf, product}
+use Rattle.field.specs.Field.{polynomial, double, timesPower, power}
+use Rattle.field.specs.working.Products.{productOf, product}
 use Rattle.field.proofs.Doubling.{double-xor, double-zero, times-zero, times-add, times-comm}
 use Rattle.field.proofs.Primitive.{primitive}
 use Rattle.field.proofs.Powers.{element-ind, times-lt, times-inj, power-lt}

@@ -10,9 +10,10 @@ use lib.ListN.{getD}
 use lib.Pow.{shr-shr}
 use Rattle.degree.specs.declared.Degree.{Degree}
 use Rattle.degree.specs.Degree.{size, order}
-use Rattle.field.specs.Field.{power, product}
+use Rattle.field.specs.Field.{power}
+use Rattle.field.specs.working.Products.{product}
 use Rattle.laws.specs.Digits.{sumOver, digits}
-use Rattle.field.specs.Tables.{Logs, Tables, weight}
+use Rattle.field.specs.working.Tables.{Logs, Tables, weight}
 use Rattle.field.proofs.Primitive.{primitive}
 use Rattle.field.proofs.Products.{product-powers}
 use Rattle.field.proofs.Weights.{weight-power, weight-cube, weight-two}

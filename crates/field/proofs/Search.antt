@@ -14,9 +14,9 @@ use Rattle.field.specs.declared.locate.Positions.{Positions}
 use Rattle.field.specs.declared.locate.Positions.the-variants.{Zero, One, Two, Unfit}
 use Rattle.degree.specs.Degree.{order}
 use Rattle.field.specs.Field.{power}
-use Rattle.field.specs.Positions.{located, atMostOne}
-use Rattle.field.specs.Tables.{Tables}
-use Rattle.field.specs.Fitting.{Fits, Second}
+use Rattle.field.specs.working.Positions.{located, atMostOne}
+use Rattle.field.specs.working.Tables.{Tables}
+use Rattle.field.specs.working.Fitting.{Fits, Second}
 use Rattle.field.proofs.Locating.{located-fits, located-is, located-unfit}
 use Rattle.field.proofs.Primitive.{primitive}
 use Rattle.field.proofs.Powers.{power-pos}

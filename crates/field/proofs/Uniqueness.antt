@@ -13,8 +13,8 @@ use Rattle.field.specs.declared.locate.Positions.{Positions}
 use Rattle.field.specs.declared.locate.Positions.the-variants.{Zero, One, Two, Unfit}
 use Rattle.degree.specs.Degree.{order}
 use Rattle.field.specs.Field.{timesPower, power}
-use Rattle.field.specs.Positions.{total}
-use Rattle.field.specs.Fitting.{Within}
+use Rattle.field.specs.working.Positions.{total}
+use Rattle.field.specs.working.Fitting.{Within}
 use Rattle.field.proofs.Doubling.{times-xor, times-add}
 use Rattle.field.proofs.Primitive.{primitive}
 use Rattle.field.proofs.Powers.{power-pos, power-cancel, sum-power}

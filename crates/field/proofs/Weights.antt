@@ -13,9 +13,10 @@ use lib.ListN.{take}
 use Rattle.degree.specs.declared.Degree.{Degree}
 use Rattle.degree.specs.Degree.{bits, size, order}
 use Rattle.field.specs.Field.{power}
-use Rattle.laws.specs.Digits.{sumOver, upTo}
+use Rattle.laws.specs.Digits.{sumOver}
+use Rattle.laws.specs.working.Digits.{upTo}
 use Rattle.field.specs.Syndrome.{s1, s3, parity}
-use Rattle.field.specs.Tables.{weight}
+use Rattle.field.specs.working.Tables.{weight}
 use Rattle.field.proofs.Primitive.{primitive}
 use Rattle.field.proofs.Powers.{power-lt}
 use Rattle.laws.proofs.DigitSums.{sum-lt, xor-pair, sum-pair, sum-ones, up-to-below, up-to-past, sum-up-to}

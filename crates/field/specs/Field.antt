@@ -23,12 +23,3 @@ timesPower d (suc i) x = double d (timesPower d i x)
 -- α^i
 abbrev pub power : Degree → ℕ → ℕ
 power d i = timesPower d i 1
-
--- y times the k lowest coefficients of x: the sum of y α^i over the bits i of x
-unfoldable pub productOf : Degree → ℕ → ℕ → ℕ → ℕ
-productOf d zero x y = 0
-productOf d (suc k) x y = bitXor (x % 2 * y) (productOf d k (x / 2) (double d y))
-
--- x times y
-abbrev pub product : Degree → ℕ → ℕ → ℕ
-product d x y = productOf d (bits d) x y

@@ -6,8 +6,9 @@ ghost use mathlib.Core.Path.{_≡_};
 ghost use mathlib.Core.Logic.{_≢_};
 ghost use Prim.Native.Nat.{_<_};
 ghost use Rattle.degree.specs.Degree.{size, order};
-ghost use Rattle.field.specs.Field.{power, product};
-ghost use Rattle.field.specs.Tables.{Tables};
+ghost use Rattle.field.specs.Field.{power};
+ghost use Rattle.field.specs.working.Products.{product};
+ghost use Rattle.field.specs.working.Tables.{Tables};
 
 // α^i.
 pub fn power_of(d: Degree, i: usize, tables: &FieldTables) -> u16

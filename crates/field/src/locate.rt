@@ -7,9 +7,9 @@ ghost use mathlib.Core.Path.{_≡_};
 ghost use mathlib.Core.Logic.{_≢_};
 ghost use Prim.Native.Nat.{ℕ, _+_, _*_, _<_};
 ghost use Rattle.degree.specs.Degree.{size, order};
-ghost use Rattle.field.specs.Positions.{located, atMostOne};
-ghost use Rattle.field.specs.Fitting.{Second};
-ghost use Rattle.field.specs.Tables.{Tables};
+ghost use Rattle.field.specs.working.Positions.{located, atMostOne};
+ghost use Rattle.field.specs.working.Fitting.{Second};
+ghost use Rattle.field.specs.working.Tables.{Tables};
 
 // Cells below n - 1 that are wrong.
 pub enum Positions {

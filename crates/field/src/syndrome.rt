@@ -3,8 +3,8 @@ use crate::tables::FieldTables;
 use degree::Degree;
 ghost use mathlib.Core.Path.{_≡_};
 ghost use Rattle.laws.specs.Digits.{sumOver, digits};
-ghost use Rattle.field.specs.Checks.{IsSyndrome};
-ghost use Rattle.field.specs.Tables.{Tables, weight};
+ghost use Rattle.field.specs.working.Checks.{IsSyndrome};
+ghost use Rattle.field.specs.working.Tables.{Tables, weight};
 
 // The sum of α^i, the sum of α^(3i), and the parity.
 pub struct Syndrome {

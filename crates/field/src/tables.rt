@@ -6,8 +6,8 @@ ghost use Prim.Native.Nat.{ℕ, _+_, _*_, _<_, _≤_};
 ghost use lib.ListN.{length, getD};
 ghost use Rattle.degree.specs.Degree.{order};
 ghost use Rattle.field.specs.Field.{power};
-ghost use Rattle.field.specs.Tables.{Powers, Weights, Logs, Tables};
-ghost use Rattle.field.specs.Building.{Doubled, Block, Summed};
+ghost use Rattle.field.specs.working.Tables.{Powers, Weights, Logs, Tables};
+ghost use Rattle.field.specs.working.Building.{Doubled, Block, Summed};
 
 // The tables of a degree in one array: 64 weights, 64 logarithms, and 8 blocks of 256 sums of weights.
 pub type FieldTables = [u16; 2176];

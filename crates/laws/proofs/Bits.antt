@@ -11,7 +11,8 @@ use lib.Bits.{bitAnd, bitOr, bitXor, differ, and-step, or-step, xor-step, and-sh
 use lib.Count.{ones, ones-step}
 use lib.Dec.{eqb}
 use lib.Pow.{pow-add, shr-shr, shl-shr, field, mod-mod-pow}
-use Rattle.laws.specs.Bits.{bit, xorb, bitAt}
+use Rattle.laws.specs.Bits.{bit}
+use Rattle.laws.specs.working.Bits.{xorb, bitAt}
 use Rattle.laws.proofs.Xor.{bit-ind, digit-lt}
 
 -- ---- a word by its lowest digit and the rest

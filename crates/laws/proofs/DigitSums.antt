@@ -14,7 +14,8 @@ use lib.Dec.{eqb, leb·suc-suc}
 use lib.ListN.{length, getD, take, set}
 use lib.Pow.{pow-pos, field, mod-mod-pow}
 use Rattle.laws.proofs.Xor.{xors, xor-assoc, bit-ind, digit-lt}
-use Rattle.laws.specs.Digits.{sumOver, ones, digits, upTo}
+use Rattle.laws.specs.Digits.{sumOver, ones, digits}
+use Rattle.laws.specs.working.Digits.{upTo}
 
 -- what a cell adds to a sum in which it counts for m
 abbrev pub cell : ℕ → ℕ → ℕ

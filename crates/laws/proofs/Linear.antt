@@ -12,11 +12,13 @@ use lib.Pow.{pow-pos, pow-add}
 use lib.Bits.{bitXor, xor-zero-r, xor-self, xor-shr, xor-mod, xor-block, xor-comm, xor-shifted}
 use lib.Dec.{eqb}
 use lib.ListN.{length, getD}
-use Rattle.laws.specs.Bits.{bit, bitAt}
+use Rattle.laws.specs.Bits.{bit}
+use Rattle.laws.specs.working.Bits.{bitAt}
 use Rattle.laws.proofs.Bits.{bit-lt, bit-one, shift-more}
 use Rattle.laws.proofs.Xor.{xors, bit-ind, digit-lt, xor-digit, xor-assoc, xor-scale, scale-xor}
-use Rattle.laws.specs.Sums.{xorTo}
-use Rattle.laws.specs.Digits.{sumOver, digits, pack}
+use Rattle.laws.specs.working.Sums.{xorTo}
+use Rattle.laws.specs.Digits.{sumOver, digits}
+use Rattle.laws.specs.working.Digits.{pack}
 use Rattle.laws.proofs.DigitSums.{sum-cong, sum-zero, sum-lt, sum-append, digits-length}
 
 -- 1 for a cell that holds 1

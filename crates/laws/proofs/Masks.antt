@@ -12,7 +12,7 @@ use lib.Count.{trailingZeros}
 use lib.Dec.{eqb, eqb·zero-suc, eqb·suc-zero, eqb·suc-suc}
 use lib.Pow.{pow-mono}
 use borrow.Author.Tests.{eq-eqb, ne-eqb}
-use Rattle.laws.specs.Bits.{bitAt}
+use Rattle.laws.specs.working.Bits.{bitAt}
 use Rattle.laws.specs.Sums.{sumTo}
 use Rattle.laws.proofs.Bits.{half-bit, low-bit, and-bits, shift-more, bit-at-lt}
 use Rattle.laws.proofs.Sums.{sum-ext, sum-add, sum-zero}

@@ -19,11 +19,3 @@ ones (c ∷ cs) = elim (eqb c 1) [ true ↦ 1 | false ↦ 0 ] + ones cs
 unfoldable pub digits : ℕ → ℕ → List ℕ
 digits zero w = []
 digits (suc k) w = w % 2 ∷ digits k (w / 2)
-
--- the number whose bit i is cell i of a word
-abbrev pub pack : List ℕ → ℕ
-pack w = sumOver (λ i. 2 ^ i) w
-
--- f at the cells below m, 0 past them
-unfoldable pub upTo : ℕ → (ℕ → ℕ) → ℕ → ℕ
-upTo m f i = elim (ltb i m) [ true ↦ f i | false ↦ 0 ]

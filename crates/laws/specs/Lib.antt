@@ -2,3 +2,4 @@ pub mod Bits
 pub mod Sums
 pub mod Tests
 pub mod Digits
+pub mod working

@@ -6,8 +6,3 @@ use lib.Bits.{bitXor}
 unfoldable pub sumTo : (ℕ → ℕ) → ℕ → ℕ
 sumTo f zero = 0
 sumTo f (suc n) = sumTo f n + f n
-
--- the sum by exclusive or of F 0, F 1, .. F (k - 1)
-unfoldable pub xorTo : ℕ → (ℕ → ℕ) → ℕ
-xorTo zero F = 0
-xorTo (suc k) F = bitXor (F 0) (xorTo k (λ i. F (suc i)))

@@ -12,9 +12,9 @@ use Rattle.line.specs.declared.bounded.Tried.{Tried}
 use Rattle.line.specs.Cells.{erasures, few, distance, designedDistance}
 use Rattle.line.specs.Bounded.{Answer, orBack}
 use Rattle.line.specs.Decoding.{choice}
-use Rattle.line.specs.Packed.{Packs, PacksWord}
-use Rattle.line.specs.Word.{value}
-use Rattle.line.specs.Working.{Answers, failed, found}
+use Rattle.line.specs.working.Packed.{Packs, PacksWord}
+use Rattle.line.specs.working.Word.{value}
+use Rattle.line.specs.working.Tries.{Answers, failed, found}
 use Rattle.line.proofs.Packing.{differences-of}
 
 -- ---- the choice of two answers

@@ -19,10 +19,12 @@ use Rattle.line.specs.declared.side.Side.{Side}
 use Rattle.line.specs.declared.side.Side.the-variants.{One, Two}
 use Rattle.line.specs.declared.clause.Clause.{Clause}
 use Rattle.line.specs.declared.clause.Clause.the-variants.{Equal, Crowded, Neither, Agreeing, Unchanged, Open, Afresh, Channel}
-use Rattle.line.specs.Cells.{cell, IsLine, IsWord, isErased, bit, erasures, few, distance, fillingBit, filledCell, filled, designedDistance, radius}
+use Rattle.line.specs.Cells.{cell, IsWord, isErased, bit, erasures, few, distance, fillingBit, filledCell, filled, designedDistance, radius}
+use Rattle.line.specs.working.Packed.{IsLine}
 use Rattle.line.specs.Bounded.{Answer, Found, Failed, orBack, bounded}
 use Rattle.line.specs.Decoding.{choice, replaced, decode, decoded, message}
-use Rattle.line.specs.Clauses.{other, near, ifNear, firstFit, reach, same, answerCell, agrees, byReach, clause, openChoice, settled}
+use Rattle.line.specs.Clauses.{other, near, firstFit, reach, same, answerCell, agrees, byReach, clause}
+use Rattle.line.specs.working.Settled.{ifNear, openChoice, settled}
 use Rattle.line.proofs.CellLaws.{differs-equal, differs-other, filling-bit-lt, filled-known, filled-erased, filled-lt, bitsFrom, filled-length, filled-cell, filled-set, filled-word, set-cells, erasures-set, distance-set, erased-or-known}
 use Rattle.line.proofs.Decoders.{Decoder, found-failed}
 use Rattle.line.proofs.Distances.{bounded-decoder}

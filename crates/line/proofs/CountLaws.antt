@@ -16,7 +16,8 @@ use Rattle.laws.specs.Sums.{sumTo}
 use Rattle.laws.proofs.Sums.{sum-le, sum-constant, sum-first}
 use Rattle.line.specs.declared.side.Side.the-variants.{One, Two}
 use Rattle.line.specs.declared.clause.Clause.the-variants.{Equal, Crowded, Both, Neither, Agreeing, Unchanged, Open, Afresh, Channel}
-use Rattle.line.specs.Cells.{cell, IsLine, isErased, bit, erasures, few, designedDistance}
+use Rattle.line.specs.Cells.{cell, isErased, bit, erasures, few, designedDistance}
+use Rattle.line.specs.working.Packed.{IsLine}
 use Rattle.line.specs.Bounded.{Answer, bounded}
 use Rattle.line.specs.Decoding.{replaced}
 use Rattle.line.specs.Clauses.{cost, firstFit, reach, same, agrees, byReach, clause, count}

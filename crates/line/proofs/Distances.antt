@@ -20,10 +20,10 @@ use Rattle.field.specs.declared.locate.Positions.{Positions}
 use Rattle.field.specs.declared.locate.Positions.the-variants.{Zero, One, Two, Unfit}
 use Rattle.degree.specs.Degree.{size, order}
 use Rattle.field.specs.Field.{power}
-use Rattle.field.specs.Positions.{total}
+use Rattle.field.specs.working.Positions.{total}
 use Rattle.laws.specs.Digits.{sumOver, ones}
 use Rattle.field.specs.Syndrome.{s1, s3, parity}
-use Rattle.field.specs.Fitting.{Within}
+use Rattle.field.specs.working.Fitting.{Within}
 use Rattle.field.proofs.Uniqueness.{unique}
 use Rattle.field.proofs.Primitive.{primitive}
 use Rattle.line.specs.Cells.{IsWord, distance, flip, designedDistance}

@@ -16,7 +16,7 @@ use Rattle.line.specs.declared.entry.LineAnswer.the-variants as line
 use Rattle.line.specs.Cells.{few, filled}
 use Rattle.line.specs.Bounded.{Answer, Failed, bounded}
 use Rattle.line.specs.Decoding.{choice, decode}
-use Rattle.line.specs.Working.{Answers, failed, found}
+use Rattle.line.specs.working.Tries.{Answers, failed, found}
 use Rattle.line.specs.Refusals.{number, refusal, given}
 use Rattle.line.specs.Entries.{isFound, Answered}
 use Rattle.line.proofs.Refusing.{given-taken, given-refused}

@@ -12,9 +12,9 @@ use lib.ListN.{length, take}
 use Rattle.laws.proofs.Xor.{xor-assoc}
 use Rattle.field.specs.declared.locate.Positions.{Positions}
 use Rattle.field.specs.declared.locate.Positions.the-variants.{Zero, One, Two, Unfit}
-use Rattle.field.specs.Positions.{total}
+use Rattle.field.specs.working.Positions.{total}
 use Rattle.laws.specs.Digits.{sumOver, ones}
-use Rattle.field.specs.Fitting.{Within}
+use Rattle.field.specs.working.Fitting.{Within}
 use Rattle.line.specs.Cells.{IsWord, differs, distance, flip}
 use Rattle.line.proofs.CellLaws.{Bits, differs-equal, differs-other, flip-word, distance-self, distance-flip}
 use Rattle.line.proofs.SumLaws.{sum-flip, ones-flip, take-flip}

@@ -9,10 +9,10 @@ use lib.Bits.{bitOr, or-shifted-r}
 use lib.ListN.{length, take, drop, length-drop}
 use lib.Seq.{length-take-le, getD-drop, take-add}
 use Rattle.laws.specs.Bits.{bit}
-use Rattle.words.specs.Bytes.{joined, gathered}
-use Rattle.line.specs.Cells.{isOne, isErased}
-use Rattle.line.specs.Packed.{packBy}
-use Rattle.line.proofs.Words.{Small, packBy-lt, packBy-append, cell-ind}
+use Rattle.words.specs.working.Bytes.{joined, gathered}
+use Rattle.line.specs.working.Packed.{isOne, packBy}
+use Rattle.line.specs.Cells.{isErased}
+use Rattle.line.proofs.PackBits.{Small, packBy-lt, packBy-append, cell-ind}
 
 -- ---- the bits of joined cells
 

@@ -1,5 +1,5 @@
 pub mod CellLaws
-pub mod Words
+pub mod PackBits
 mod Packing
 mod Gathering
 mod Spreading

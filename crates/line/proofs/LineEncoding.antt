@@ -15,7 +15,7 @@ use lib.Dec.{T, eqb, ltb, eqb→eq, ltb→lt}
 use lib.ListN.{length, getD, take, drop, length-append, length-drop, List·getD-append}
 use lib.Pow.{pow-pos, pow-add}
 use lib.Seq.{length-take-le, take-at, drop-at, take-add, take-all, take-suc, getD-append-add, getD-at, getD-take, getD-drop}
-use Rattle.laws.specs.Bits.{bitAt}
+use Rattle.laws.specs.working.Bits.{bitAt}
 use Rattle.laws.proofs.Bits.{bit-one, bit-at-lt}
 use Rattle.laws.proofs.Tests.{every, and-left, and-right, every-at}
 use Rattle.laws.proofs.Xor.{xor-eq, digit-lt}
@@ -23,7 +23,8 @@ use Rattle.degree.specs.declared.Degree.{Degree}
 use Rattle.degree.specs.declared.Degree.the-variants.{Four, Six}
 use Rattle.degree.specs.Degree.{bits, size, order}
 use Rattle.field.specs.Field.{double, timesPower, power}
-use Rattle.laws.specs.Digits.{sumOver, ones, digits, pack}
+use Rattle.laws.specs.Digits.{sumOver, ones, digits}
+use Rattle.laws.specs.working.Digits.{pack}
 use Rattle.field.specs.Syndrome.{parity}
 use Rattle.field.proofs.Powers.{power-lt}
 use Rattle.line.specs.Codeword.{Codeword}

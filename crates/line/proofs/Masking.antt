@@ -10,21 +10,23 @@ use lib.Bits.{bitAnd, bitOr, bitXor, or-lt, xor-lt, and-lt}
 use lib.Dec.{eqb}
 use lib.Pow.{pow-pos}
 use borrow.Author.Tests.{eq-eqb, ne-eqb}
-use Rattle.laws.specs.Bits.{bit, bitAt}
+use Rattle.laws.specs.Bits.{bit}
+use Rattle.laws.specs.working.Bits.{bitAt}
 use Rattle.laws.proofs.Xor.{bit-ind, xor-eq}
 use Rattle.laws.proofs.Bits.{bit-at-lt, or-at, xor-at, and-at}
 use Rattle.degree.specs.declared.Degree.{Degree}
 use Rattle.degree.specs.Degree.{size}
 use Rattle.line.specs.declared.clause.Clause.the-variants.{Equal, Channel}
 use Rattle.line.specs.declared.packed.Line.{Line}
-use Rattle.line.specs.Word.{value}
-use Rattle.line.specs.Cells.{cell, isOne, isErased, erasures, few, designedDistance}
+use Rattle.line.specs.working.Word.{value}
+use Rattle.line.specs.Cells.{cell, isErased, erasures, few, designedDistance}
+use Rattle.line.specs.working.Packed.{isOne, packBy, Packs}
 use Rattle.line.specs.Bounded.{bounded}
 use Rattle.line.specs.Decoding.{decoded, message}
-use Rattle.line.specs.Clauses.{cost, clause, settled}
-use Rattle.line.specs.Packed.{packBy, Packs}
-use Rattle.line.specs.Fillings.{Masks, start}
-use Rattle.line.proofs.Words.{packBy-lt, packBy-bit}
+use Rattle.line.specs.Clauses.{cost, clause}
+use Rattle.line.specs.working.Settled.{settled}
+use Rattle.line.specs.working.Fillings.{Masks, start}
+use Rattle.line.proofs.PackBits.{packBy-lt, packBy-bit}
 use Rattle.line.proofs.Packing.{cell-of-line}
 use Rattle.line.proofs.Choosing.{is-few, is-many}
 use Rattle.line.proofs.ClauseLaws.{clause-settles}

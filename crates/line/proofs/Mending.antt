@@ -16,16 +16,16 @@ use Rattle.field.specs.declared.locate.Positions.{Positions}
 use Rattle.field.specs.declared.locate.Positions.the-variants.{Zero, One, Two, Unfit}
 use Rattle.degree.specs.Degree.{size, order}
 use Rattle.field.specs.Field.{power}
-use Rattle.field.specs.Positions.{total}
+use Rattle.field.specs.working.Positions.{total}
 use Rattle.laws.specs.Digits.{sumOver}
 use Rattle.field.specs.Syndrome.{s1, s3, parity}
-use Rattle.field.specs.Fitting.{Within, Fits}
+use Rattle.field.specs.working.Fitting.{Within, Fits}
 use Rattle.field.proofs.Uniqueness.{unique}
 use Rattle.field.proofs.Primitive.{primitive}
 use Rattle.line.specs.Cells.{IsWord, distance, flip}
 use Rattle.line.specs.Codeword.{Codeword}
 use Rattle.line.specs.Bounded.{Answer, Found, Failed, bounded}
-use Rattle.line.specs.Working.{mended}
+use Rattle.line.specs.working.Tries.{mended}
 use Rattle.line.proofs.CellLaws.{distance-parts}
 use Rattle.line.proofs.SumLaws.{ones-distance, take-flip, take-flip-past}
 use Rattle.line.proofs.Flips.{flipped, many, Reached, reached, within-le, flipped-word, flipped-near, flipped-sum, flipped-ones, take-flipped}

@@ -11,7 +11,8 @@ use native.Mathlib.Nat.{lt-of-le-of-lt}
 use lib.Bits.{bitAnd, bitOr, bitXor, and-le-l}
 use lib.Dec.{eqb, ltb}
 use borrow.Author.Tests.{eqb-true}
-use Rattle.laws.specs.Bits.{bit, bitAt}
+use Rattle.laws.specs.Bits.{bit}
+use Rattle.laws.specs.working.Bits.{bitAt}
 use Rattle.laws.proofs.Xor.{bit-ind}
 use Rattle.laws.proofs.Bits.{bit-at-lt, or-at, xor-at, and-at, or-first, or-second, and-none}
 use Rattle.laws.proofs.Tests.{and-true}
@@ -21,20 +22,21 @@ use Rattle.line.specs.declared.side.Side.{Side}
 use Rattle.line.specs.declared.side.Side.the-variants.{One, Two}
 use Rattle.line.specs.declared.packed.Line.{Line}
 use Rattle.line.specs.Cells.{cell, isErased, erasures, few, distance, filled, designedDistance, radius}
-use Rattle.line.specs.Packed.{packBy, Packs}
-use Rattle.line.specs.Word.{value}
-use Rattle.line.proofs.Words.{packBy-bit}
+use Rattle.line.specs.working.Packed.{packBy, Packs}
+use Rattle.line.specs.working.Word.{value}
+use Rattle.line.proofs.PackBits.{packBy-bit}
 use Rattle.line.proofs.Packing.{bit-of-word}
 use Rattle.line.proofs.RowLaws.{word-packs-one}
 use Rattle.line.specs.declared.bounded.Tried.{Tried}
 use Rattle.line.specs.Bounded.{Answer, Found, Failed, orBack, bounded}
 use Rattle.line.specs.Decoding.{choice, replaced, decode, message}
-use Rattle.line.specs.Working.{Answers, failed, found}
+use Rattle.line.specs.working.Tries.{Answers, failed, found}
 use Rattle.line.specs.declared.clause.Clause.the-variants.{Both}
-use Rattle.line.specs.declared.clause.Half.{Half}
+use Rattle.line.specs.declared.clause.Trial.{Trial}
 use Rattle.line.specs.declared.clause.Base.{Base}
-use Rattle.line.specs.Clauses.{reach, byReach, cost, clause, settled}
-use Rattle.line.specs.Fillings.{Halves, Based, Masks, start, stays, oneCodeword}
+use Rattle.line.specs.Clauses.{reach, byReach, cost, clause}
+use Rattle.line.specs.working.Settled.{settled}
+use Rattle.line.specs.working.Fillings.{TrialOf, Based, Masks, start, stays, oneCodeword}
 use Rattle.line.proofs.ClauseLaws.{clause-settles}
 use Rattle.line.proofs.Reaching.{channel-bit, reach-at, equal-clause, reach-clause}
 use Rattle.line.proofs.Masking.{outside}
@@ -52,7 +54,7 @@ stays-bit {a} {c} {o} ha hc ho =
     (bit-ind (λ (o : ℕ). bitXor (bitXor 1 0) (bitAnd (bitXor 1 0) (bitXor o 1)) ≡ 0 → (eqb 1 0 || not (eqb o 1)) ≡ true) (λ z. refl) (λ z. absurd (omega arith)) ho)
     (λ z. refl) hc) ha
 
-pub stays-at : (h : Half) (k : ℕ) → {m w v : ℕ}
+pub stays-at : (h : Trial) (k : ℕ) → {m w v : ℕ}
     → m ≡ bitXor (value (h .before)) (value (h .channel)) → v ≡ bitXor (value (h .tried .word)) (value (h .before)) → w ≡ bitXor m (bitAnd m v) → bitAt w k ≡ 0
     → stays h k ≡ true
 stays-at h k em ev ew z =
@@ -106,7 +108,7 @@ module _ (d : Degree) (ys rs : List ℕ) (f : ℕ) {b : Base} (B : Based d ys rs
       let t = and-true (b .one .tried .found) (b .two .tried .found) (s .0) in
       agree (B .one e .tried) (B .two e .tried) (t .0) (t .1) (eqb-true (value (b .one .tried .word)) (value (b .two .tried .word)) (s .1))
 
-  in-reach : (k : ℕ) → k < size d → (s : Side) (h : Half) → Halves d ys rs f s h → h .tried .found ≡ true → stays h k ≡ true → reach (bounded d) ys rs f k s ≡ true
+  in-reach : (k : ℕ) → k < size d → (s : Side) (h : Trial) → TrialOf d ys rs f s h → h .tried .found ≡ true → stays h k ≡ true → reach (bounded d) ys rs f k s ≡ true
   in-reach k hk s h H g t =
       sym (reach-at d ys rs f k (p .cells) (q .cells) hk s h H (bitAt (value (h .tried .word)) k) (λ c w. bit-of-word k w))
       ∙ rw (g, ← bit-of-word k (H .before), ← (bit-of-word k (H .channel) ∙ channel-bit d ys rs f k (p .cells) (q .cells) hk s)) t

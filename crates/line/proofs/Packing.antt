@@ -9,17 +9,18 @@ use lib.Bits.{bitAnd, bitOr, bitXor, xor-self, and-le-l}
 use lib.Count.{ones}
 use lib.ListN.{length, set}
 use lib.Pow.{shl-exact}
-use Rattle.laws.specs.Bits.{bit, xorb}
+use Rattle.laws.specs.Bits.{bit}
+use Rattle.laws.specs.working.Bits.{xorb}
 use Rattle.laws.proofs.Xor.{bit-ind}
 use Rattle.laws.proofs.Bits.{bit-one}
 use Rattle.line.specs.declared.side.Side.the-variants.{One, Two}
 use Rattle.line.specs.declared.word.Word.{Word}
 use Rattle.line.specs.declared.packed.Line.{Line}
-use Rattle.line.specs.Word.{value, width}
-use Rattle.line.specs.Cells.{cell, isOne, isErased, erasures, distance, filled, flip}
-use Rattle.line.specs.Packed.{packBy, Packs, PacksWord}
+use Rattle.line.specs.working.Word.{value, width}
+use Rattle.line.specs.Cells.{cell, isErased, erasures, distance, filled, flip}
+use Rattle.line.specs.working.Packed.{isOne, packBy, Packs, PacksWord}
 use Rattle.line.proofs.CellLaws.{set-cells, filled-word}
-use Rattle.line.proofs.Words.{packBy-lt, packBy-bit, packBy-set, cell-ind, cell-of, filled-first, filled-second, no-erased, ones-erased, ones-differing}
+use Rattle.line.proofs.PackBits.{packBy-lt, packBy-bit, packBy-set, cell-ind, cell-of, filled-first, filled-second, no-erased, ones-erased, ones-differing}
 
 -- cell k of a packed line
 pub cell-of-line : {n : ℕ} {cs : List ℕ} {l : Line} (k : ℕ) → Packs n cs l → value (l .ones) / 2 ^ k % 2 + 2 * (value (l .erased) / 2 ^ k % 2) ≡ cell cs k

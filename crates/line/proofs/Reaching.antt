@@ -18,16 +18,16 @@ use Rattle.line.specs.declared.side.Side.the-variants.{One, Two}
 use Rattle.line.specs.declared.clause.Clause.{Clause}
 use Rattle.line.specs.declared.clause.Clause.the-variants.{Equal, Crowded, Afresh, Channel}
 use Rattle.line.specs.declared.bounded.Tried.{Tried}
-use Rattle.line.specs.declared.clause.Half.{Half}
+use Rattle.line.specs.declared.clause.Trial.{Trial}
 use Rattle.line.specs.declared.clause.Seen.{Seen}
-use Rattle.line.specs.Cells.{IsLine, cell, isErased, erasures, few, differs, distance, filled, filledCell, fillingBit, designedDistance, radius}
+use Rattle.line.specs.working.Packed.{IsLine, PacksWord}
+use Rattle.line.specs.Cells.{cell, isErased, erasures, few, differs, distance, filled, filledCell, fillingBit, designedDistance, radius}
 use Rattle.line.specs.Bounded.{Answer, Found, Failed, orBack, bounded}
 use Rattle.line.specs.Decoding.{replaced}
 use Rattle.line.specs.Clauses.{near, reach, same, agrees, answerCell, firstFit, byReach, clause}
-use Rattle.line.specs.Packed.{PacksWord}
-use Rattle.line.specs.Word.{value}
-use Rattle.line.specs.Working.{Answers, failed, found}
-use Rattle.line.specs.Fillings.{Halves, Sees}
+use Rattle.line.specs.working.Word.{value}
+use Rattle.line.specs.working.Tries.{Answers, failed, found}
+use Rattle.line.specs.working.Fillings.{TrialOf, Sees}
 use Rattle.line.proofs.CellLaws.{bitsFrom, filled-cell, filled-word, distance-set, erased-or-known}
 use Rattle.line.proofs.Distances.{bounded-decoder}
 use Rattle.line.proofs.ClauseLaws.{now-is, now-cell, z-cell, new-lt, changed}
@@ -67,7 +67,7 @@ module _ (d : Degree) (ys rs : List ℕ) (f k : ℕ) (ly : IsLine (size d) ys) (
   channel-bit s = filled-cell s rs f k (rw (lr .long) hk) ∙ sym (now-cell (bounded-decoder d) ys rs f k ly lr hk s)
 
   -- a filling, and cell k of what it found
-  module _ (s : Side) (h : Half) (H : Halves d ys rs f s h) (own : ℕ) (is-own : (c : List ℕ) → PacksWord (size d) c (value (h .tried .word)) → own ≡ cell c k) where
+  module _ (s : Side) (h : Trial) (H : TrialOf d ys rs f s h) (own : ℕ) (is-own : (c : List ℕ) → PacksWord (size d) c (value (h .tried .word)) → own ≡ cell c k) where
     pub value-at : cond (h .tried .found) own (cell rs k) ≡ answerCell (bounded d) ys rs f k (bounded d (filled s ys f))
     value-at = go (H .tried)
       where

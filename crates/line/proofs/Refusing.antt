@@ -20,7 +20,8 @@ use Rattle.line.specs.declared.refusals.Refusal.the-variants.{BadDegree,
 use Rattle.line.specs.declared.refusals.Call.{Call}
 use Rattle.line.specs.declared.refusals.Call.the-variants.{Taken, Refused}
 use Rattle.line.specs.Cells.{cell, Cells}
-use Rattle.line.specs.Refusals.{number, refusal, unlessRefused, given, Tested, misfit, some, atMost, lineTests, messagesTests}
+use Rattle.line.specs.Refusals.{number, refusal, unlessRefused, given, misfit, some, atMost, lineTests, messagesTests}
+use Rattle.line.specs.working.Calls.{Tested}
 
 -- ---- no cell above a bound, looked at one after the other
 
@@ -85,6 +86,13 @@ module _ (degree : ℕ) where
       go true q a b e = let h : Four ≡ d = cc in eqb-true degree 4 a ∙ ap bits h
       go false true a b e = let h : Six ≡ d = cc in eqb-true degree 6 b ∙ ap bits h
       go false false a b e = let z : _≡_ {A = ℕ} 0 1 = cc in absurd (omega arith)
+
+  -- it names one degree
+  pub known-one : {d d′ : Degree} → named degree ≡ Known d → named degree ≡ Known d′ → d ≡ d′
+  known-one {d} {d′} e e′ = one (sym e ∙ e′)
+    where
+      one : Known d ≡ Known d′ → d ≡ d′
+      one h = cc
 
   -- 2 to its power is n
   pub known-size : (d : Degree) → named degree ≡ Known d → 2 ^ degree ≡ size d

@@ -16,11 +16,11 @@ use Rattle.field.specs.declared.syndrome.Syndrome.{Syndrome}
 use Rattle.degree.specs.Degree.{size, order}
 use Rattle.field.specs.Field.{power}
 use Rattle.laws.specs.Digits.{sumOver, ones, digits}
-use Rattle.field.specs.Checks.{IsSyndrome}
+use Rattle.field.specs.working.Checks.{IsSyndrome}
 use Rattle.line.specs.declared.packed.Line.{Line}
-use Rattle.line.specs.Word.{value, width}
-use Rattle.line.specs.Cells.{cell, IsLine, isOne}
-use Rattle.line.specs.Packed.{packBy, Packs, PacksWord}
+use Rattle.line.specs.working.Word.{value, width}
+use Rattle.line.specs.Cells.{cell}
+use Rattle.line.specs.working.Packed.{IsLine, isOne, packBy, Packs, PacksWord}
 use Rattle.line.proofs.CellLaws.{Bits}
 use Rattle.line.proofs.Packing.{cell-of-line, bit-of-word}
 

@@ -22,11 +22,12 @@ use Rattle.line.specs.declared.clause.Base.{Base}
 use Rattle.line.specs.Cells.{cell, isErased, erasures, few, filled, designedDistance}
 use Rattle.line.specs.Bounded.{Answer, Found, Failed, bounded}
 use Rattle.line.specs.Decoding.{replaced, decoded, message}
-use Rattle.line.specs.Clauses.{ifNear, reach, cost, clause, settled}
-use Rattle.line.specs.Packed.{Packs}
-use Rattle.line.specs.Word.{value}
-use Rattle.line.specs.Working.{Answers, failed, found}
-use Rattle.line.specs.Fillings.{Based, triedOf, start}
+use Rattle.line.specs.working.Settled.{ifNear, settled}
+use Rattle.line.specs.Clauses.{reach, cost, clause}
+use Rattle.line.specs.working.Packed.{Packs}
+use Rattle.line.specs.working.Word.{value}
+use Rattle.line.specs.working.Tries.{Answers, failed, found}
+use Rattle.line.specs.working.Fillings.{Based, triedOf, start}
 use Rattle.line.proofs.CellLaws.{erased-or-known}
 use Rattle.line.proofs.Packing.{packed-as}
 use Rattle.line.proofs.Distances.{bounded-decoder}

@@ -11,11 +11,11 @@ use lib.Pow.{field, mod-mod-pow}
 use lib.Seq.{sets, sets-eq, take-at, length-take-le}
 use Rattle.laws.specs.Digits.{digits}
 use Rattle.laws.proofs.Bits.{half-bit, low-bit, shift-more}
-use Rattle.words.specs.Bytes.{joined, bytesOf}
+use Rattle.words.specs.working.Bytes.{joined, bytesOf}
 use Rattle.words.proofs.ByteLaws.{bytes-joined}
-use Rattle.line.specs.Cells.{isOne, isErased}
-use Rattle.line.specs.Packed.{packBy}
-use Rattle.line.proofs.Words.{Small, cell-of}
+use Rattle.line.specs.working.Packed.{isOne, packBy}
+use Rattle.line.specs.Cells.{isErased}
+use Rattle.line.proofs.PackBits.{Small, cell-of}
 
 -- ---- the cells that two words say
 

@@ -9,10 +9,10 @@ use Rattle.degree.specs.Degree.{size}
 use Rattle.line.specs.declared.side.Side.the-variants.{One, Two}
 use Rattle.line.specs.declared.packed.Line.{Line}
 use Rattle.line.specs.Cells.{few, filled}
-use Rattle.line.specs.Packed.{Packs}
+use Rattle.line.specs.working.Packed.{Packs}
 use Rattle.line.specs.Bounded.{orBack, bounded}
 use Rattle.line.specs.Decoding.{choice, decode}
-use Rattle.line.specs.Fillings.{start}
+use Rattle.line.specs.working.Fillings.{start}
 
 module _ (d : Degree) (ys : List ℕ) (f : ℕ) {l : Line} where
   pub few-start : (rs : List ℕ) → few ys ≡ true → Packs (size d) (orBack ys (choice ys (bounded d (filled One ys f)) (bounded d (filled Two ys f)))) l → Packs (size d) (start d ys rs f) l

@@ -13,17 +13,17 @@ use Rattle.field.specs.declared.locate.Positions.the-variants.{Zero, One, Two, 
 use Rattle.field.specs.declared.syndrome.Syndrome.{Syndrome}
 use Rattle.degree.specs.Degree.{size, order}
 use Rattle.field.specs.Syndrome.{s1, s3, parity}
-use Rattle.field.specs.Checks.{IsSyndrome}
-use Rattle.field.specs.Fitting.{Fits}
-use Rattle.field.specs.Positions.{located}
+use Rattle.field.specs.working.Checks.{IsSyndrome}
+use Rattle.field.specs.working.Fitting.{Fits}
+use Rattle.field.specs.working.Positions.{located}
 use Rattle.field.proofs.Primitive.{primitive}
 use Rattle.field.proofs.Locating.{located-fits, located-none}
 use Rattle.line.specs.declared.bounded.Tried.{Tried}
 use Rattle.line.specs.Cells.{flip}
 use Rattle.line.specs.Bounded.{bounded}
-use Rattle.line.specs.Packed.{PacksWord}
-use Rattle.line.specs.Word.{value}
-use Rattle.line.specs.Working.{Answers, failed, found, mended, Below, usable}
+use Rattle.line.specs.working.Packed.{PacksWord}
+use Rattle.line.specs.working.Word.{value}
+use Rattle.line.specs.working.Tries.{Answers, failed, found, mended, Below, usable}
 use Rattle.line.proofs.Mending.{answer-mends}
 
 pub last-below : (d : Degree) → order d < size d

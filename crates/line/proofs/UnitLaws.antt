@@ -16,9 +16,10 @@ use lib.Dec.{T, eqb, eqb→eq}
 use lib.ListN.{length, getD, take, List·getD-eq-default}
 use lib.Pow.{pow-lt}
 use lib.Seq.{take-all}
-use Rattle.laws.specs.Bits.{bitAt}
-use Rattle.laws.specs.Digits.{sumOver, ones, digits, pack}
-use Rattle.laws.specs.Sums.{xorTo}
+use Rattle.laws.specs.working.Bits.{bitAt}
+use Rattle.laws.specs.Digits.{sumOver, ones, digits}
+use Rattle.laws.specs.working.Digits.{pack}
+use Rattle.laws.specs.working.Sums.{xorTo}
 use Rattle.laws.proofs.Bits.{bit-one}
 use Rattle.laws.proofs.DigitSums.{sum-cong, sum-ones, sum-append, sum-more, digits-length}
 use Rattle.laws.proofs.Linear.{one, sum-step, Additive, sum-map, then-adds, shift-adds, sumDigits, digits-adds, digits-power, digits-bits, digits-at, pack-step, pack-digits, digits-pack, pack-lt, pack-append, to-cong, to-both, sum-to}
@@ -26,10 +27,10 @@ use Rattle.laws.proofs.Tests.{every, every-at, and-left, and-right}
 use Rattle.laws.proofs.Xor.{digit-lt}
 use Rattle.degree.specs.declared.Degree.{Degree}
 use Rattle.degree.specs.Degree.{size, order}
-use Rattle.line.specs.Cells.{IsWord, isOne}
-use Rattle.line.specs.Packed.{packBy, PacksWord}
+use Rattle.line.specs.Cells.{IsWord}
+use Rattle.line.specs.working.Packed.{isOne, packBy, PacksWord}
 use Rattle.line.specs.Encoding.{checkSize, messageSize, sums, checksFor, checkCells, encodeLine}
-use Rattle.line.specs.Units.{Units}
+use Rattle.line.specs.working.Units.{Units}
 use Rattle.line.proofs.CellLaws.{Bits}
 use Rattle.line.proofs.Bounds.{size-le}
 use Rattle.line.proofs.LineEncoding.{inverse, length-checks, length-body, line-codeword, summed}

@@ -14,20 +14,20 @@ use lib.Dec.{eqb}
 use lib.ListN.{length, set}
 use lib.Seq.{getD-set-same, getD-set-other, ext-getD}
 use borrow.Author.Tests.{ne-eqb, eqb-true, eqb-false, not-true, not-false}
-use Rattle.laws.specs.Bits.{bitAt}
+use Rattle.laws.specs.working.Bits.{bitAt}
 use Rattle.laws.specs.Sums.{sumTo}
 use Rattle.laws.proofs.Masks.{lowest, lowest-below, sumMask, mask-turn, mask-all, mask-none}
 use Rattle.degree.specs.declared.Degree.{Degree}
 use Rattle.degree.specs.Degree.{size}
 use Rattle.line.specs.declared.packed.Line.{Line}
 use Rattle.line.specs.declared.clause.Base.{Base}
-use Rattle.line.specs.Cells.{IsLine, cell}
+use Rattle.line.specs.working.Packed.{IsLine, Packs}
+use Rattle.line.specs.Cells.{cell}
 use Rattle.line.specs.Bounded.{bounded}
 use Rattle.line.specs.Decoding.{listTo, message, messages}
 use Rattle.line.specs.Clauses.{cost, clause, count}
-use Rattle.line.specs.Packed.{Packs}
-use Rattle.line.specs.Fillings.{Based, Masks, start}
-use Rattle.line.specs.Word.{width}
+use Rattle.line.specs.working.Fillings.{Based, Masks, start}
+use Rattle.line.specs.working.Word.{width}
 use Rattle.line.proofs.LineLaw.{listTo-is, listTo-cell, messages-line}
 
 -- a message is a cell

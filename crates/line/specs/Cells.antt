@@ -18,16 +18,9 @@ pub record Cells (bound n : ℕ) (l : List ℕ) : Type 0 where
   pub long : length l ≡ n
   pub small : (i : ℕ) → cell l i < bound
 
--- a line of n cells, which are 0, 1 or 2
-abbrev pub IsLine : ℕ → List ℕ → Type 0
-IsLine = Cells 3
-
 -- a full word of n cells, which are 0 or 1
 abbrev pub IsWord : ℕ → List ℕ → Type 0
 IsWord = Cells 2
-
-abbrev pub isOne : ℕ → Bool
-isOne c = eqb c 1
 
 -- an unsure cell
 abbrev pub isErased : ℕ → Bool

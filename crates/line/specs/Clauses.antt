@@ -35,15 +35,6 @@ abbrev pub near : Answer → List ℕ → Bool
 near Failed w = false
 near (Found c) w = leb (distance w c) radius
 
--- what was found, where it is near
-abbrev pub ifNear : Answer → List ℕ → Answer
-ifNear a w = cond (near a w) a Failed
-
--- the choice with a new answer for one filling
-abbrev pub instead : List ℕ → Side → Answer → Answer → Answer → Answer
-instead y One new a b = choice y new b
-instead y Two new a b = choice y a new
-
 -- the first clause that fits, from: which fillings are in reach, is the channel cell unsure, which reached codewords agree
 -- with the other replaced filling, which fillings are unchanged by the replacement
 abbrev pub firstFit : (reach1 reach2 unsure agrees1 agrees2 same1 same2 : Bool) → Clause
@@ -93,23 +84,6 @@ module _ (dec : List ℕ → Answer) where
         (cond (eqb (cell y k) (cell r k)) Equal
         (cond (few (replaced y r k)) byReach Crowded))
         (cond (eqb (erasures y) designedDistance && (isErased (cell y k) && not (isErased (cell r k)))) Afresh Channel)
-
-    -- the choice at an open cell: filling s is decoded once more, what the other one found counts where it is in reach
-    abbrev pub openChoice : Side → Answer
-    openChoice s =
-        instead (replaced y r k) s (dec (after s)) (ifNear (dec (before One)) (after One)) (ifNear (dec (before Two)) (after Two))
-
-    -- the message as the clause gives it
-    unfoldable pub settled : Clause → ℕ
-    settled Equal = cell (decoded dec y f) k
-    settled Crowded = 2
-    settled Both = answerCell (choice (replaced y r k) (dec (before One)) (dec (before Two)))
-    settled Neither = cell r k
-    settled (Agreeing s) = answerCell (dec (before s))
-    settled (Unchanged s) = answerCell (dec (before s))
-    settled (Open s) = answerCell (openChoice s)
-    settled Afresh = cell (decoded dec (replaced y r k) f) k
-    settled Channel = cell r k
 
   -- the count of a line: 2 if fewer than 6 unsure cells come in, else 0, plus 1 for each open cell, plus 2 for each cell
   -- decoded afresh

@@ -3,11 +3,11 @@
 use mathlib.Core.Path.{_≡_}
 use mathlib.Core.Bool.{Bool, true, false}
 use mathlib.Core.List.{List, []}
-use Prim.Native.Nat.{ℕ}
+use Prim.Native.Nat.{ℕ, _+_, _^_, _≤_}
 use Rattle.line.specs.declared.entry.LineAnswer.{LineAnswer}
 use Rattle.line.specs.declared.entry.LineAnswer.the-variants as line
 use Rattle.line.specs.declared.entry.MessagesAnswer.{MessagesAnswer}
-use Rattle.line.specs.declared.entry.MessagesAnswer.the-variants as sent
+use Rattle.line.specs.declared.entry.MessagesAnswer.the-variants as out
 use Rattle.line.specs.Bounded.{Answer, Found, Failed, orBack, bounded}
 use Rattle.line.specs.Decoding.{decode, messages}
 use Rattle.line.specs.Clauses.{count as countBy}
@@ -29,13 +29,13 @@ abbrev pub isFound : Answer → Bool
 isFound (Found c) = true
 isFound Failed = false
 
-abbrev pub sentRefusal : MessagesAnswer → ℕ
-sentRefusal (sent.Refused why) = number why
-sentRefusal (sent.Sent n) = 0
+abbrev pub messagesRefusal : MessagesAnswer → ℕ
+messagesRefusal (out.Refused why) = number why
+messagesRefusal (out.Written n) = 0
 
-abbrev pub sentCount : MessagesAnswer → ℕ
-sentCount (sent.Refused why) = 0
-sentCount (sent.Sent n) = n
+abbrev pub messagesCount : MessagesAnswer → ℕ
+messagesCount (out.Refused why) = 0
+messagesCount (out.Written n) = n
 
 -- ---- the promises
 
@@ -53,13 +53,15 @@ BoundedDone degree before after =
     Answered (refusal tests) (given degree tests (λ d. bounded d before) Failed) before after
 
 -- decoding of a line, whose cells are 0, 1 or 2: "with 6 or more unsure cells it fails. Otherwise both words are decoded."
-abbrev pub DecodeDone : (degree filling : ℕ) (before after : List ℕ) → LineAnswer → Type 0
-DecodeDone degree filling before after =
+abbrev pub DecodeLineDone : (degree filling : ℕ) (before after : List ℕ) → LineAnswer → Type 0
+DecodeLineDone degree filling before after =
     let tests = lineTests 2 degree before [] in
     Answered (refusal tests) (given degree tests (λ d. decode (bounded d) before filling) Failed) before after
 
 -- the messages of a line, and its count; a refused call sends nothing and counts nothing
 pub record MessagesDone (degree : ℕ) (incoming channel : List ℕ) (filling : ℕ) (before after : List ℕ) (r : MessagesAnswer) : Type 0 where
-  pub refusal : sentRefusal r ≡ refusal (messagesTests degree incoming channel before [])
-  pub count : sentCount r ≡ given degree (messagesTests degree incoming channel before []) (λ d. countBy (bounded d) incoming channel filling) 0
+  pub refusal : messagesRefusal r ≡ refusal (messagesTests degree incoming channel before [])
+  pub count : messagesCount r ≡ given degree (messagesTests degree incoming channel before []) (λ d. countBy (bounded d) incoming channel filling) 0
+  -- "at most n + 2 a line"
+  pub most : messagesCount r ≤ 2 ^ degree + 2
   pub cells : after ≡ given degree (messagesTests degree incoming channel before []) (λ d. messages (bounded d) incoming channel filling) before

@@ -1,16 +1,9 @@
 pub mod Cells
-pub mod Word
-pub mod Packed
-pub mod Rows
-pub mod Tables
 pub mod Codeword
 pub mod Bounded
 pub mod Decoding
-pub mod Working
 pub mod Refusals
 pub mod Entries
 pub mod Clauses
-pub mod Fillings
-pub mod SentRows
 pub mod Encoding
-pub mod Units
+pub mod working

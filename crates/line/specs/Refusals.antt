@@ -42,11 +42,6 @@ atDegree Unknown asked other = other
 unfoldable pub given : {A : Type 0} → (degree : ℕ) → List (ℕ × Bool) → (asked : Degree → A) (refused : A) → A
 given degree tests asked refused = unlessRefused tests (atDegree (named degree) asked refused) refused
 
--- a call that was tested: a refused one has the number of the first test that applies; none applies to one that is taken
-abbrev pub Tested : (degree : ℕ) → List (ℕ × Bool) → Call → Type 0
-Tested degree tests (Refused why) = number why ≡ refusal tests
-Tested degree tests (Taken d) = (refusal tests ≡ 0) × (named degree ≡ Known d)
-
 -- ---- the conditions
 
 -- 1: degree not 4 or 6

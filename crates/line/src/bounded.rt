@@ -14,14 +14,14 @@ ghost use mathlib.Core.Bool.{cond};
 ghost use mathlib.Core.List.{List};
 ghost use Prim.Native.Nat.{ℕ, _+_, _<_};
 ghost use Rattle.degree.specs.Degree.{size};
-ghost use Rattle.field.specs.Positions.{located};
-ghost use Rattle.line.specs.Tables.{TablesOf};
+ghost use Rattle.field.specs.working.Positions.{located};
+ghost use Rattle.line.specs.working.Tables.{TablesOf};
 ghost use Rattle.line.specs.Cells.{flip};
 ghost use Rattle.line.specs.Bounded.{bounded};
-ghost use Rattle.line.specs.Packed.{PacksWord};
-ghost use Rattle.line.specs.Word.{value, width};
+ghost use Rattle.line.specs.working.Packed.{PacksWord};
+ghost use Rattle.line.specs.working.Word.{value, width};
 ghost use lib.Dec.{eqb};
-ghost use Rattle.line.specs.Working.{Answers, Below, mended, usable};
+ghost use Rattle.line.specs.working.Tries.{Answers, Below, mended, usable};
 
 // What bounded-distance decoding of a word gave: was a codeword found, and which. Where none was, nothing is said of `word`.
 pub struct Tried {
@@ -67,9 +67,9 @@ fn mend(d: Degree, word: Word, wrong: Positions, parity: u16) -> Tried
     }
 }
 
-// The wrong cells below n - 1, as far as `mend` has a use for them. Two can be mended only where the ones are even in number;
+// The error positions below n - 1, as far as `mend` has a use for them. Two can be mended only where the ones are even in number;
 // where they are odd, no time is spent on a search for two.
-fn wrong_places(d: Degree, s: Syndrome, tables: &LineTables) -> Positions
+fn error_positions(d: Degree, s: Syndrome, tables: &LineTables) -> Positions
     requires { ⌜ (s .s1 < size d) × (s .s3 < size d) × TablesOf d (now tables) ⌝ }
     ensures { λ r. ⌜ r ≡ usable (eqb (s .parity) 0) (located d (s .s1) (s .s3)) ⌝ }
 {
@@ -86,7 +86,7 @@ pub fn bounded_word(d: Degree, word: Word, tables: &LineTables) -> Tried
     ensures { λ r. ⌜ ((ws : List ℕ) → PacksWord (size d) ws (value word) → Answers (size d) (bounded d ws) r) ⌝ }
 {
     let s = check_sums(d, word, tables);
-    let wrong = wrong_places(d, s, tables);
+    let wrong = error_positions(d, s, tables);
     mend(d, word, wrong, s.parity)
 }
 

@@ -14,30 +14,30 @@ ghost use mathlib.Core.List.{List};
 ghost use Prim.Native.Nat.{ℕ, _<_};
 ghost use lib.Dec.{eqb, ltb};
 ghost use Rattle.degree.specs.Degree.{size};
-ghost use Rattle.line.specs.Cells.{IsLine, cell, filled, designedDistance, radius};
+ghost use Rattle.line.specs.working.Packed.{IsLine, PacksWord};
+ghost use Rattle.line.specs.Cells.{cell, filled, designedDistance, radius};
 ghost use Rattle.line.specs.Bounded.{bounded};
 ghost use Rattle.line.specs.Clauses.{firstFit, clause};
-ghost use Rattle.line.specs.Packed.{PacksWord};
-ghost use Rattle.line.specs.Word.{value, width};
-ghost use Rattle.line.specs.Working.{Answers};
-ghost use Rattle.line.specs.Fillings.{Halves, Sees, Based};
+ghost use Rattle.line.specs.working.Word.{value, width};
+ghost use Rattle.line.specs.working.Tries.{Answers};
+ghost use Rattle.line.specs.working.Fillings.{TrialOf, Sees, Based};
 
 // What settles the message at a cell: document 01's clauses in their order. A side says which filling's codeword is in reach
 // or, of an open cell, which filling is decoded once more.
 pub enum Clause {
-    Equal,
-    Crowded,
-    Both,
-    Neither,
-    Agreeing(Side),
-    Unchanged(Side),
-    Open(Side),
-    Afresh,
-    Channel,
+    Equal, // "equal cells at k"
+    Crowded, // "replaced line has 6 unsure cells"
+    Both, // "both in reach"
+    Neither, // "none in reach, channel cell known"
+    Agreeing(Side), // "one in reach, and its codeword agrees at k with the other replaced filling"
+    Unchanged(Side), // "one in reach, the other filling unchanged by the replacement"
+    Open(Side), // "all others are open, and one further decoding settles each"
+    Afresh, // "exactly 6, the incoming cell unsure and the channel's known"
+    Channel, // "elsewhere the message is the channel cell"
 }
 
-// One filling of a line: the filled word, the channel line filled by the same bits, what was found, and how far off that is.
-pub struct Half {
+// One filling of a line, tried: the filled word, the channel line filled by the same bits, what was found, and how far off that is.
+pub struct Trial {
     pub before: Word,
     pub channel: Word,
     pub tried: Tried,
@@ -59,17 +59,17 @@ pub struct Base {
     pub filling: Word,
     pub erased: u32,
     pub own: Line,
-    pub one: Half,
-    pub two: Half,
+    pub one: Trial,
+    pub two: Trial,
     pub count: u64,
 }
 
 // What a filling gave, measured once for all cells of the line.
-pub fn half_of(d: Degree, before: Word, channel: Word, tried: Tried) -> Half
-    ensures { λ r. ⌜ ((ys rs : List ℕ) (f : ℕ) (s : Side) → PacksWord (size d) (filled s ys f) (value before) → PacksWord (size d) (filled s rs f) (value channel) → Answers (size d) (bounded d (filled s ys f)) tried → Halves d ys rs f s r) ⌝ }
+pub fn trial_of(d: Degree, before: Word, channel: Word, tried: Tried) -> Trial
+    ensures { λ r. ⌜ ((ys rs : List ℕ) (f : ℕ) (s : Side) → PacksWord (size d) (filled s ys f) (value before) → PacksWord (size d) (filled s rs f) (value channel) → Answers (size d) (bounded d (filled s ys f)) tried → TrialOf d ys rs f s r) ⌝ }
 {
     let far = count_differences(full(before), tried.word);
-    Half {
+    Trial {
         before,
         channel,
         tried,
@@ -91,9 +91,9 @@ fn either(first: bool, a: u64, b: u64) -> u64
 }
 
 // What a filling says at cell k, where the channel has c.
-pub fn seen_at(d: Degree, h: Half, c: u64, k: u32) -> Seen
+pub fn seen_at(d: Degree, h: Trial, c: u64, k: u32) -> Seen
     requires { ⌜ k < width ⌝ }
-    ensures { λ r. ⌜ ((ys rs : List ℕ) (f : ℕ) (s : Side) → IsLine (size d) ys → IsLine (size d) rs → k < size d → c ≡ cell rs k → Halves d ys rs f s h → Sees d ys rs f k s r) ⌝ }
+    ensures { λ r. ⌜ ((ys rs : List ℕ) (f : ℕ) (s : Side) → IsLine (size d) ys → IsLine (size d) rs → k < size d → c ≡ cell rs k → TrialOf d ys rs f s h → Sees d ys rs f k s r) ⌝ }
 {
     let t = h.tried;
     let before = word_cell(h.before, k);

@@ -7,10 +7,10 @@ ghost use mathlib.Core.Path.{_≡_};
 ghost use mathlib.Core.List.{List};
 ghost use Prim.Native.Nat.{ℕ};
 ghost use Rattle.degree.specs.Degree.{size};
-ghost use Rattle.line.specs.Tables.{TablesOf};
+ghost use Rattle.line.specs.working.Tables.{TablesOf};
 ghost use Rattle.line.specs.Codeword.{isCodeword};
-ghost use Rattle.line.specs.Packed.{PacksWord};
-ghost use Rattle.line.specs.Word.{value};
+ghost use Rattle.line.specs.working.Packed.{PacksWord};
+ghost use Rattle.line.specs.working.Word.{value};
 
 // A codeword has three check sums of 0.
 pub fn is_codeword(d: Degree, word: Word, tables: &LineTables) -> bool

@@ -17,16 +17,16 @@ ghost use mathlib.Core.Bool.{false};
 ghost use mathlib.Core.List.{List};
 ghost use Prim.Native.Nat.{ℕ, _+_, _*_, _<_, _≤_};
 ghost use Rattle.degree.specs.Degree.{size};
-ghost use Rattle.line.specs.Tables.{TablesOf};
+ghost use Rattle.line.specs.working.Tables.{TablesOf};
 ghost use Rattle.line.specs.Cells.{few, bit};
 ghost use Rattle.line.specs.Bounded.{Answer, bounded, orBack};
 ghost use Rattle.line.specs.Decoding.{choice, decode, decoded};
-ghost use Rattle.line.specs.Packed.{Packs};
-ghost use Rattle.line.specs.Word.{value};
-ghost use Rattle.line.specs.Working.{Answers};
+ghost use Rattle.line.specs.working.Packed.{Packs};
+ghost use Rattle.line.specs.working.Word.{value};
+ghost use Rattle.line.specs.working.Tries.{Answers};
 
 // A line, and the decodings counted so far.
-pub struct Sent {
+pub struct LineTally {
     pub line: Line,
     pub count: u64,
 }
@@ -85,13 +85,19 @@ pub fn try_packed(d: Degree, y: Line, filling: Word, count: u64, tables: &LineTa
 }
 
 // Line decoding: what Algorithm 1 found, or the line as it came.
-pub fn decode_packed(d: Degree, y: Line, filling: Word, count: u64, tables: &LineTables) -> Sent
+pub fn decode_packed(
+    d: Degree,
+    y: Line,
+    filling: Word,
+    count: u64,
+    tables: &LineTables,
+) -> LineTally
     requires { ⌜ (count < 900) × TablesOf d (now tables) ⌝ }
     ensures { λ r. ⌜ (r .count ≤ count + 2) × ((ys : List ℕ) → Packs (size d) ys y → Packs (size d) (decoded (bounded d) ys (value filling)) (r .line) × (r .count ≡ count + 2 * bit (few ys))) ⌝ }
 {
     let t = try_packed(d, y, filling, count, tables);
     let line = or_back(y, t.tried);
-    Sent {
+    LineTally {
         line,
         count: t.count,
     }

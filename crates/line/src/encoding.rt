@@ -8,10 +8,10 @@ use degree::Degree;
 use words::copying::copy_words;
 ghost use Rattle.degree.specs.Degree.{size};
 ghost use Rattle.line.specs.Cells.{IsWord};
-ghost use Rattle.line.specs.Packed.{PacksWord};
+ghost use Rattle.line.specs.working.Packed.{PacksWord};
 ghost use Rattle.line.specs.Encoding.{messageSize, encodeLine};
-ghost use Rattle.line.specs.Units.{Units};
-ghost use Rattle.line.specs.Word.{value};
+ghost use Rattle.line.specs.working.Units.{Units};
+ghost use Rattle.line.specs.working.Word.{value};
 
 // Entry a below k: the encoded line of the message whose one 1 is cell a; from k on 0.
 pub type UnitTable = [u64; 64];

@@ -21,13 +21,13 @@ ghost use mathlib.Core.Path.{_≡_};
 ghost use Prim.Native.Nat.{ℕ, _%_};
 ghost use lib.ListN.{length};
 ghost use Rattle.degree.specs.Degree.{size};
-ghost use Rattle.line.specs.Cells.{IsLine, IsWord};
+ghost use Rattle.line.specs.working.Packed.{IsLine, Packs};
+ghost use Rattle.line.specs.Cells.{IsWord};
 ghost use Rattle.line.specs.Bounded.{Answer, bounded};
 ghost use Rattle.line.specs.Decoding.{decode, messages as messagesBy};
 ghost use Rattle.line.specs.Clauses.{count as countBy};
-ghost use Rattle.line.specs.Packed.{Packs};
-ghost use Rattle.line.specs.Working.{Answers};
-ghost use Rattle.line.specs.Entries.{Answered, BoundedDone, DecodeDone, MessagesDone};
+ghost use Rattle.line.specs.working.Tries.{Answers};
+ghost use Rattle.line.specs.Entries.{Answered, BoundedDone, DecodeLineDone, MessagesDone};
 
 pub enum LineAnswer {
     Refused(Refusal),
@@ -37,7 +37,7 @@ pub enum LineAnswer {
 
 pub enum MessagesAnswer {
     Refused(Refusal),
-    Sent(u64),
+    Written(u64),
 }
 
 // ---- one word, one line
@@ -103,7 +103,7 @@ pub fn bounded_distance(degree: u64, word: &mut [u8]) -> LineAnswer
 
 // Line decoding, in place.
 pub fn decode_line(degree: u64, cells: &mut [u8], filling: u64) -> LineAnswer
-    ensures { λ r. ⌜ DecodeDone degree filling (now (cells .entry)) (now (cells .exit)) r ⌝ }
+    ensures { λ r. ⌜ DecodeLineDone degree filling (now (cells .entry)) (now (cells .exit)) r ⌝ }
 {
     let call = line_test(degree, cells, 2);
     match call {
@@ -124,7 +124,13 @@ pub fn line_messages(
 {
     let call = messages_test(degree, incoming, channel, messages);
     match call {
-        Call::Taken(d) => MessagesAnswer::Sent(send_taken(d, incoming, channel, filling, messages)),
+        Call::Taken(d) => MessagesAnswer::Written(send_taken(
+            d,
+            incoming,
+            channel,
+            filling,
+            messages,
+        )),
         Call::Refused(why) => MessagesAnswer::Refused(why),
     }
 }

@@ -3,11 +3,11 @@ use crate::bounded::Tried;
 use crate::bounded::counted;
 use crate::clause::Base;
 use crate::clause::Clause;
-use crate::clause::Half;
+use crate::clause::Trial;
 use crate::clause::clause_at;
-use crate::clause::half_of;
 use crate::clause::seen_at;
-use crate::decoding::Sent;
+use crate::clause::trial_of;
+use crate::decoding::LineTally;
 use crate::decoding::choose;
 use crate::decoding::decode_packed;
 use crate::decoding::nothing_found;
@@ -39,17 +39,18 @@ ghost use mathlib.Core.Bool.{true, false, _&&_};
 ghost use mathlib.Core.List.{List};
 ghost use Prim.Native.Nat.{ℕ, _+_, _*_, _<_, _≤_};
 ghost use lib.Dec.{eqb};
-ghost use Rattle.laws.specs.Bits.{bitAt};
+ghost use Rattle.laws.specs.working.Bits.{bitAt};
 ghost use Rattle.degree.specs.Degree.{size};
-ghost use Rattle.line.specs.Tables.{TablesOf};
-ghost use Rattle.line.specs.Cells.{IsLine, cell, erasures, few, bit, filled, designedDistance};
+ghost use Rattle.line.specs.working.Tables.{TablesOf};
+ghost use Rattle.line.specs.working.Packed.{IsLine, Packs};
+ghost use Rattle.line.specs.Cells.{cell, erasures, few, bit, filled, designedDistance};
 ghost use Rattle.line.specs.Bounded.{Answer, bounded, orBack};
 ghost use Rattle.line.specs.Decoding.{replaced, message, messages, decoded};
-ghost use Rattle.line.specs.Clauses.{ifNear, instead, cost, clause, settled, count};
-ghost use Rattle.line.specs.Packed.{Packs};
-ghost use Rattle.line.specs.Word.{value, width};
-ghost use Rattle.line.specs.Working.{Answers};
-ghost use Rattle.line.specs.Fillings.{Halves, Based, Masks, stays, oneCodeword, triedOf};
+ghost use Rattle.line.specs.working.Settled.{ifNear, instead, settled};
+ghost use Rattle.line.specs.Clauses.{cost, clause, count};
+ghost use Rattle.line.specs.working.Word.{value, width};
+ghost use Rattle.line.specs.working.Tries.{Answers};
+ghost use Rattle.line.specs.working.Fillings.{TrialOf, Based, Masks, stays, oneCodeword, triedOf};
 
 // A message, and the decodings counted so far.
 pub struct Settled {
@@ -68,9 +69,9 @@ fn answer_at(z: Line, t: Tried, k: u32) -> u64
 }
 
 // What a filling found, where it is in reach at the cell.
-fn near_only(d: Degree, h: Half, c: u64, k: u32) -> Tried
+fn near_only(d: Degree, h: Trial, c: u64, k: u32) -> Tried
     requires { ⌜ k < width ⌝ }
-    ensures { λ r. ⌜ ((ys rs : List ℕ) (f : ℕ) (s : Side) → IsLine (size d) ys → IsLine (size d) rs → k < size d → c ≡ cell rs k → Halves d ys rs f s h → Answers (size d) (ifNear (bounded d (filled s ys f)) (filled s (replaced ys rs k) f)) r) ⌝ }
+    ensures { λ r. ⌜ ((ys rs : List ℕ) (f : ℕ) (s : Side) → IsLine (size d) ys → IsLine (size d) rs → k < size d → c ≡ cell rs k → TrialOf d ys rs f s h → Answers (size d) (ifNear (bounded d (filled s ys f)) (filled s (replaced ys rs k) f)) r) ⌝ }
 {
     let v = seen_at(d, h, c, k);
     let t = h.tried;
@@ -175,10 +176,10 @@ fn message_at(d: Degree, k: u32, b: Base, count: u64, tables: &LineTables) -> Se
 
 // ---- a line
 
-fn no_half() -> Half {
+fn no_trial() -> Trial {
     let none = zero_word();
     let tried = nothing_found();
-    Half {
+    Trial {
         before: none,
         channel: none,
         tried,
@@ -201,8 +202,8 @@ fn few_base(d: Degree, y: Line, r: Line, filling: Word, erased: u32, tables: &Li
         filling,
         erased,
         own: or_back(y, choose(y, one.tried, two.tried)),
-        one: half_of(d, words[0], channel[0], one.tried),
-        two: half_of(d, words[1], channel[1], two.tried),
+        one: trial_of(d, words[0], channel[0], one.tried),
+        two: trial_of(d, words[1], channel[1], two.tried),
         count: two.count,
     }
 }
@@ -221,15 +222,15 @@ fn base_of(d: Degree, y: Line, r: Line, filling: Word, tables: &LineTables) -> B
             filling,
             erased,
             own: r,
-            one: no_half(),
-            two: no_half(),
+            one: no_trial(),
+            two: no_trial(),
             count: 0,
         }
     }
 }
 
 // The cells at which a codeword that was found may leave reach: it lies at 2, and the change at the cell leads away from it.
-fn leaving(h: Half) -> Word
+fn leaving(h: Trial) -> Word
     ensures { λ r. ⌜ ((k : ℕ) → bitAt (value r) k ≡ 0 → stays h k ≡ true) ⌝ }
 {
     let t = h.tried;
@@ -294,7 +295,7 @@ fn left_of(d: Degree, b: Base) -> Word
 }
 
 // All messages of incoming line y with channel line r.
-pub fn messages_of(d: Degree, y: Line, r: Line, filling: Word, tables: &LineTables) -> Sent
+pub fn messages_of(d: Degree, y: Line, r: Line, filling: Word, tables: &LineTables) -> LineTally
     requires { ⌜ TablesOf d (now tables) ⌝ }
     ensures { λ s. ⌜ (s .count ≤ 130) × ((ys rs : List ℕ) → Packs (size d) ys y → Packs (size d) rs r → Packs (size d) (messages (bounded d) ys rs (value filling)) (s .line) × (s .count ≡ count (bounded d) ys rs (value filling))) ⌝ }
 {
@@ -309,5 +310,5 @@ pub fn messages_of(d: Degree, y: Line, r: Line, filling: Word, tables: &LineTabl
         count = m.count;
         left = rest(left);
     }
-    Sent { line, count }
+    LineTally { line, count }
 }

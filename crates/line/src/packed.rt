@@ -27,9 +27,9 @@ ghost use lib.Bits.{bitAnd, bitOr, bitXor};
 ghost use lib.ListN.{length, set};
 ghost use Rattle.degree.specs.Degree.{size};
 ghost use Rattle.line.specs.Cells.{cell, erasures, distance, filled};
-ghost use Rattle.line.specs.Word.{value, width};
+ghost use Rattle.line.specs.working.Word.{value, width};
 ghost use Rattle.line.specs.Encoding.{checkSize, messageSize};
-ghost use Rattle.line.specs.Packed.{Packs, PacksWord, sideWord};
+ghost use Rattle.line.specs.working.Packed.{Packs, PacksWord, sideWord};
 
 // Bit i of `ones` says that cell i is 1, bit i of `erased` that it is unsure.
 pub struct Line {

@@ -8,7 +8,8 @@ ghost use mathlib.Core.Path.{_≡_};
 ghost use mathlib.Core.Bool.{not};
 ghost use mathlib.Core.List.{[], _∷_};
 ghost use Rattle.degree.specs.Degree.{bits};
-ghost use Rattle.line.specs.Refusals.{number, atMost, Tested, lineTests, messagesTests};
+ghost use Rattle.line.specs.Refusals.{number, atMost, lineTests, messagesTests};
+ghost use Rattle.line.specs.working.Calls.{Tested};
 
 // Why a call is turned down: document 01's numbers 1 to 4.
 pub enum Refusal {

@@ -6,7 +6,7 @@ use crate::word::is_zero;
 ghost use mathlib.Core.Path.{_≡_};
 ghost use Prim.Native.Nat.{_%_};
 ghost use lib.ListN.{length};
-ghost use Rattle.line.specs.Rows.{Updated};
+ghost use Rattle.line.specs.working.Rows.{Updated};
 
 // A row that holds `old` made to hold `new`; most rows of a late half stay as they are and are not written.
 pub fn update_row(row: &mut [u8], old: Line, new: Line)

@@ -1,5 +1,5 @@
 // A lent row of an array, beside its packed line.
-use crate::decoding::Sent;
+use crate::decoding::LineTally;
 use crate::messages::messages_of;
 use crate::packed::Line;
 use crate::row::update_row;
@@ -9,9 +9,9 @@ use degree::Degree;
 ghost use Prim.Native.Nat.{_%_};
 ghost use mathlib.Core.Path.{_≡_};
 ghost use lib.ListN.{length};
-ghost use Rattle.line.specs.Tables.{TablesOf};
-ghost use Rattle.line.specs.Word.{value};
-ghost use Rattle.line.specs.SentRows.{SentRow};
+ghost use Rattle.line.specs.working.Tables.{TablesOf};
+ghost use Rattle.line.specs.working.Word.{value};
+ghost use Rattle.line.specs.working.SentRows.{SentRow};
 
 // A lent row, which y holds packed, replaced by its messages, which are handed back packed.
 pub fn send_row(
@@ -21,7 +21,7 @@ pub fn send_row(
     r: Line,
     filling: Word,
     tables: &LineTables,
-) -> Sent
+) -> LineTally
     requires { ⌜ (length (now row) % 8 ≡ 0) × TablesOf d (now tables) ⌝ }
     ensures { λ s. ⌜ SentRow d y r (value filling) (now (row .entry)) (now (row .exit)) s ⌝ }
 {

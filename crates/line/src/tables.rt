@@ -2,7 +2,7 @@
 use degree::Degree;
 use field::tables::FieldTables;
 use field::tables::make_tables;
-ghost use Rattle.line.specs.Tables.{TablesOf};
+ghost use Rattle.line.specs.working.Tables.{TablesOf};
 
 // What they hold is known to the field part alone.
 pub type LineTables = FieldTables;

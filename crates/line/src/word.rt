@@ -12,11 +12,11 @@ ghost use lib.Bits.{bitAnd, bitOr, bitXor};
 ghost use lib.Count.{ones, trailingZeros};
 ghost use lib.Dec.{eqb};
 ghost use Rattle.degree.specs.Degree.{size};
-ghost use Rattle.field.specs.Checks.{IsSyndrome};
+ghost use Rattle.field.specs.working.Checks.{IsSyndrome};
 ghost use Rattle.line.specs.Cells.{flip};
-ghost use Rattle.line.specs.Packed.{PacksWord};
-ghost use Rattle.line.specs.Tables.{TablesOf};
-ghost use Rattle.line.specs.Word.{value, width};
+ghost use Rattle.line.specs.working.Packed.{PacksWord};
+ghost use Rattle.line.specs.working.Tables.{TablesOf};
+ghost use Rattle.line.specs.working.Word.{value, width};
 
 pub struct Word {
     pub bits: u64,

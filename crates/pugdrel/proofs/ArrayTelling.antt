@@ -51,19 +51,19 @@ module _ (degree l : ℕ) (r w s : List ℕ) where
       let done′ = rw e at done in
       let p = cond fit r [] in
       let number-is = n ∙ done′ .refusal ∙ same-refusal Tests r decode-alike fit in
-      let counted = done′ .count ∙ same-given Tests r decode-alike fit degree (λ p d. plainCount d l p p w) 0 in
+      let count-is = done′ .count ∙ same-given Tests r decode-alike fit degree (λ p d. plainCount d l p p w) 0 in
       let unsure = done′ .erasures ∙ same-given Tests r decode-alike fit degree (λ p d. erasures (plain d l p p w)) 0 in
       let shut = done′ .closed ∙ same-given Tests r decode-alike fit degree (λ p d. closed d (plain d l p p w)) false in
-      let same : decodeNumbers a ≡ askedNumbers degree (decodeCall degree l r w s old) l r w = rw (counted, unsure, shut) in
+      let same : decodeNumbers a ≡ askedNumbers degree (decodeCall degree l r w s old) l r w = rw (count-is, unsure, shut) in
       record {
         refusal = number-is;
         cells = done′ .cells ∙ same-given Tests r decode-alike fit degree (λ p d. plain d l p p w) s;
         report = t ∙ ap (λ (x : List ℕ). told x old) same;
         sent = λ d s′ z k S near.
-            let fitting = taken-fits Tests r decode-alike fit (sym number-is ∙ z) in
-            let whole : DecodeDone degree l r w s after a = rw fitting at done′ in
+            let report-fits = taken-fits Tests r decode-alike fit (sym number-is ∙ z) in
+            let whole : DecodeDone degree l r w s after a = rw report-fits at done′ in
             let h = whole .sent d s′ (sym n ∙ z) k S near in
-            (h .0, ap (λ (x : List ℕ). getD x 2 0) t ∙ rw (fitting, h .1));
+            (h .0, ap (λ (x : List ℕ). getD x 2 0) t ∙ rw (report-fits, h .1));
       }
 
 -- ---- the look-up of a row

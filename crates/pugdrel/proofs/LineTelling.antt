@@ -14,7 +14,7 @@ use Rattle.line.specs.Bounded.{Answer, Failed, orBack, bounded}
 use Rattle.line.specs.Decoding.{messages}
 use Rattle.line.specs.Clauses.{count}
 use Rattle.line.specs.Refusals.{refusal, given, misfit, lineTests, messagesTests}
-use Rattle.line.specs.Entries.{isFound, refusalOf, foundOf, Answered, sentRefusal, sentCount, MessagesDone}
+use Rattle.line.specs.Entries.{isFound, refusalOf, foundOf, Answered, messagesRefusal, messagesCount, MessagesDone}
 use Rattle.line.proofs.Refusing.{some-none, none-applies, given-none}
 use Rattle.pugdrel.specs.Reports.{fits, told}
 use Rattle.pugdrel.specs.LineCalls.{lineCall, LineTold, MessagesTold}
@@ -78,7 +78,7 @@ module _ (degree : ℕ) (incoming channel : List ℕ) (filling : ℕ) (s : List 
   }
 
   pub messages-told : {part after old new : List ℕ} {a : MessagesAnswer} {number : ℕ} → part ≡ cond (fits 1 old) incoming []
-      → MessagesDone degree part channel filling s after a → number ≡ sentRefusal a → new ≡ told (sentCount a ∷ []) old
+      → MessagesDone degree part channel filling s after a → number ≡ messagesRefusal a → new ≡ told (messagesCount a ∷ []) old
       → MessagesTold degree incoming channel filling s after old new number
   messages-told {old} e done n t =
       let fit = fits 1 old in

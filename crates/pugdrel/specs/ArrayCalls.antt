@@ -13,7 +13,7 @@ use Rattle.degree.specs.Degree.{size, named}
 use Rattle.line.specs.Cells.{erasures}
 use Rattle.line.specs.Refusals.{refusal, given, misfit}
 use Rattle.array.specs.declared.entry.DecodeAnswer.{DecodeAnswer}
-use Rattle.array.specs.Encoding.{Sent}
+use Rattle.array.specs.Encoding.{SentArray}
 use Rattle.array.specs.Plain.{plain, plainCount, closed, RowCondition}
 use Rattle.array.specs.Refusals.{rowTests, decodeTests}
 use Rattle.array.specs.Entries.{countOf, erasuresOf, closedOf}
@@ -42,7 +42,7 @@ pub record DecodeTold (degree l : ℕ) (r w before after old new : List ℕ) (nu
   pub cells : after ≡ given degree (decodeCall degree l r w before old) (λ d. plain d l r r w) before
   pub report : new ≡ told (askedNumbers degree (decodeCall degree l r w before old) l r w) old
   -- for every sent array near which each received row is, the cells left are its cells, and closed is told as 1
-  pub sent : (d : Degree) (s : List ℕ) → number ≡ 0 → named degree ≡ Known d → Sent d s → RowCondition d r s → (after ≡ s) × (getD new 2 0 ≡ 1)
+  pub sent : (d : Degree) (s : List ℕ) → number ≡ 0 → named degree ≡ Known d → SentArray d s → RowCondition d r s → (after ≡ s) × (getD new 2 0 ≡ 1)
 
 -- ---- the look-up of a row
 

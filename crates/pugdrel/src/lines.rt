@@ -11,7 +11,7 @@ use line::refusals::number_of;
 ghost use mathlib.Core.Path.{_≡_};
 ghost use mathlib.Core.List.{[], _∷_};
 ghost use Rattle.laws.specs.Bits.{bit};
-ghost use Rattle.line.specs.Entries.{refusalOf, foundOf, sentRefusal, sentCount};
+ghost use Rattle.line.specs.Entries.{refusalOf, foundOf, messagesRefusal, messagesCount};
 ghost use Rattle.pugdrel.specs.Reports.{told};
 ghost use Rattle.pugdrel.specs.LineCalls.{BoundedTold, DecodeLineTold, MessagesTold};
 
@@ -37,21 +37,21 @@ fn is_found(answer: LineAnswer) -> bool
     }
 }
 
-fn sent_refusal(answer: MessagesAnswer) -> u64
-    ensures { λ r. ⌜ r ≡ sentRefusal answer ⌝ }
+fn messages_refusal(answer: MessagesAnswer) -> u64
+    ensures { λ r. ⌜ r ≡ messagesRefusal answer ⌝ }
 {
     match answer {
         MessagesAnswer::Refused(why) => number_of(why),
-        MessagesAnswer::Sent(_) => 0,
+        MessagesAnswer::Written(_) => 0,
     }
 }
 
-fn sent_count(answer: MessagesAnswer) -> u64
-    ensures { λ r. ⌜ r ≡ sentCount answer ⌝ }
+fn messages_count(answer: MessagesAnswer) -> u64
+    ensures { λ r. ⌜ r ≡ messagesCount answer ⌝ }
 {
     match answer {
         MessagesAnswer::Refused(_) => 0,
-        MessagesAnswer::Sent(count) => count,
+        MessagesAnswer::Written(count) => count,
     }
 }
 
@@ -105,7 +105,7 @@ pub extern "C" fn pugdrel_messages(
 {
     let end = lent(report.len() == 1, incoming.len());
     let answer = line_messages(degree, &incoming[..end], channel, filling, messages);
-    let numbers = [sent_count(answer)];
+    let numbers = [messages_count(answer)];
     tell(&numbers, report);
-    sent_refusal(answer)
+    messages_refusal(answer)
 }

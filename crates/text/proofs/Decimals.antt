@@ -9,26 +9,26 @@ use native.Mathlib.Decide.{decLt}
 use native.Mathlib.Omega.{arith}
 use borrow.Author.Tests.{lt-ltb, le-ltb}
 use lib.ListN.{length, length-append}
-use Rattle.text.specs.Text.{digits, decimal}
+use Rattle.text.specs.Text.{decimalDigits, decimal}
 
 pub less : (n : ℕ) → 10 ≤ n → n / 10 < n
 less n h = omega arith
 
-small : (k n : ℕ) → n < 10 → digits (suc k) n ≡ (48 + n) ∷ []
-unfolding digits
+small : (k n : ℕ) → n < 10 → decimalDigits (suc k) n ≡ (48 + n) ∷ []
+unfolding decimalDigits
 small k n h = rw (lt-ltb n 10 h)
 
-more : (k n : ℕ) → 10 ≤ n → digits (suc k) n ≡ digits k (n / 10) ++ ((48 + n % 10) ∷ [])
-unfolding digits
+more : (k n : ℕ) → 10 ≤ n → decimalDigits (suc k) n ≡ decimalDigits k (n / 10) ++ ((48 + n % 10) ∷ [])
+unfolding decimalDigits
 more k n h = rw (le-ltb n 10 h)
 
 -- the digits do not hang on how many are allowed, where these are enough
-enough : (k j n : ℕ) → n < k → n < j → digits k n ≡ digits j n
+enough : (k j n : ℕ) → n < k → n < j → decimalDigits k n ≡ decimalDigits j n
 enough zero j n h l = absurd (omega arith)
 enough (suc k) zero n h l = absurd (omega arith)
 enough (suc k) (suc j) n h l = pick (enough k j (n / 10))
   where
-    pick : (n / 10 < k → n / 10 < j → digits k (n / 10) ≡ digits j (n / 10)) → digits (suc k) n ≡ digits (suc j) n
+    pick : (n / 10 < k → n / 10 < j → decimalDigits k (n / 10) ≡ decimalDigits j (n / 10)) → decimalDigits (suc k) n ≡ decimalDigits (suc j) n
     pick ih =
         dite (decLt n 10)
         (λ q. small k n q ∙ sym (small j n q))

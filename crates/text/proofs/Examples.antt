@@ -5,18 +5,18 @@ use mathlib.Core.Path.{_≡_, refl}
 use mathlib.Core.List.{List, [], _∷_}
 use Prim.Native.Nat.{ℕ}
 use Rattle.line.specs.Refusals.{given}
-use Rattle.text.specs.Text.{shaped, sheetTests, digits, decimal, numberText, numbersText, refusalText, printed}
+use Rattle.text.specs.Text.{shaped, sheetTests, decimalDigits, decimal, numberText, numbersText, refusalText, printed}
 
 zero-is : decimal 0 ≡ 48 ∷ []
-unfolding digits decimal
+unfolding decimalDigits decimal
 zero-is = refl
 
 sixty-four-is : decimal 64 ≡ 54 ∷ 52 ∷ []
-unfolding digits decimal
+unfolding decimalDigits decimal
 sixty-four-is = refl
 
 hundred-is : decimal 100 ≡ 49 ∷ 48 ∷ 48 ∷ []
-unfolding digits decimal
+unfolding decimalDigits decimal
 hundred-is = refl
 
 -- the number and three zeros
@@ -25,26 +25,26 @@ refused c = c ∷ 32 ∷ 48 ∷ 32 ∷ 48 ∷ 32 ∷ 48 ∷ 10 ∷ []
 
 -- an empty input, 4 without a newline, 04, 4 with a carriage return, and 5
 nothing : printed [] ≡ refused 49
-unfolding printed given sheetTests refusalText numbersText numberText digits decimal
+unfolding printed given sheetTests refusalText numbersText numberText decimalDigits decimal
 nothing = refl
 
 no-newline : printed (52 ∷ []) ≡ refused 49
-unfolding printed given sheetTests refusalText numbersText numberText digits decimal
+unfolding printed given sheetTests refusalText numbersText numberText decimalDigits decimal
 no-newline = refl
 
 zero-four : printed (48 ∷ 52 ∷ 10 ∷ []) ≡ refused 49
-unfolding printed given sheetTests refusalText numbersText numberText digits decimal
+unfolding printed given sheetTests refusalText numbersText numberText decimalDigits decimal
 zero-four = refl
 
 carriage : printed (52 ∷ 13 ∷ 10 ∷ []) ≡ refused 49
-unfolding printed given sheetTests refusalText numbersText numberText digits decimal
+unfolding printed given sheetTests refusalText numbersText numberText decimalDigits decimal
 carriage = refl
 
 five : printed (53 ∷ 10 ∷ []) ≡ refused 49
-unfolding printed given sheetTests refusalText numbersText numberText digits decimal
+unfolding printed given sheetTests refusalText numbersText numberText decimalDigits decimal
 five = refl
 
 -- no lines after 4
 no-lines : printed (52 ∷ 10 ∷ []) ≡ refused 51
-unfolding printed given sheetTests shaped refusalText numbersText numberText digits decimal
+unfolding printed given sheetTests shaped refusalText numbersText numberText decimalDigits decimal
 no-lines = refl

@@ -25,12 +25,13 @@ use Rattle.array.specs.declared.entry.DecodeAnswer.{DecodeAnswer}
 use Rattle.array.specs.declared.entry.DecodeAnswer.the-variants as answer
 use Rattle.array.specs.Refusals.{decodeTests}
 use Rattle.array.specs.Entries.{DecodeDone, refusalOf, countOf, erasuresOf, closedOf}
-use Rattle.line.specs.Refusals.{number, refusal, Tested, atMost}
+use Rattle.line.specs.Refusals.{number, refusal, atMost}
+use Rattle.line.specs.working.Calls.{Tested}
 use Rattle.line.proofs.Refusing.{some-number, bits-named, known-size, none-applies, given-taken, given-refused, tested-known}
 use Rattle.laws.proofs.Tests.{and-true}
 use Rattle.array.specs.Plain.{plain, plainCount, closed}
-use Rattle.array.specs.Steps.{IsArray}
-use Rattle.array.specs.Runs.{Decoded}
+use Rattle.array.specs.working.Steps.{IsArray}
+use Rattle.array.specs.working.Runs.{DecodingDone}
 use Rattle.array.proofs.ArrayLaws.{length-lines, line-lines, line-at, each-cell}
 use Rattle.text.specs.Text.{byte, firstLine, placed, shaped, known, cellOf, cellsOf, zeros, sheetTests, reportText, refusalText, decodedText, printed}
 use Rattle.text.proofs.WritingLaws.{cells-even}
@@ -95,7 +96,7 @@ module _ (d : Degree) (degree : ℕ) (r w before : List ℕ) (e : degree ≡ bit
 
   module _ (after : List ℕ) (o : DecodeAnswer) (done : DecodeDone degree 1 r w before after o) where
     -- what an answer says
-    pub decoded-answer : (t : Report) → o ≡ answer.Decoded t → Decoded d 1 r (zeros d) after t
+    pub decoded-answer : (t : Report) → o ≡ answer.Decoded t → DecodingDone d 1 r (zeros d) after t
     decoded-answer t h = record {
       cells = done .cells ∙ given-taken Tests degree (λ d. plain d 1 r r w) before taken-call ∙ ap (plain d 1 r r) z;
       count = sym (ap countOf h) ∙ done .count ∙ given-taken Tests degree (λ d. plainCount d 1 r r w) 0 taken-call ∙ ap (plainCount d 1 r r) z;
@@ -109,7 +110,7 @@ module _ (d : Degree) (degree : ℕ) (r w before : List ℕ) (e : degree ≡ bit
 
 -- ---- what is printed for a decoding
 
-pub report-is : (d : Degree) {n : ℕ} (t : List ℕ) {r after : List ℕ} {u : Report} → n ≡ size d → r ≡ cellsOf n t → Decoded d 1 r (zeros d) after u
+pub report-is : (d : Degree) {n : ℕ} (t : List ℕ) {r after : List ℕ} {u : Report} → n ≡ size d → r ≡ cellsOf n t → DecodingDone d 1 r (zeros d) after u
     → reportText n after (u .count) (u .erasures) (u .closed) ≡ decodedText d (cellsOf (size d) t)
 unfolding decodedText
 report-is d t e f v = rw (v .cells, v .count, v .erasures, v .closed, f, e)

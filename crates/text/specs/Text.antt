@@ -65,13 +65,13 @@ cellsOf n t = lines (λ i. map cellOf (take n (drop (i * (n + 1)) t))) n
 -- ---- what is printed
 
 -- the digits of n, the highest first and at most k of them; 48 is the character 0
-unfoldable pub digits : ℕ → ℕ → List ℕ
-digits zero n = []
-digits (suc k) n = cond (ltb n 10) ((48 + n) ∷ []) (digits k (n / 10) ++ ((48 + n % 10) ∷ []))
+unfoldable pub decimalDigits : ℕ → ℕ → List ℕ
+decimalDigits zero n = []
+decimalDigits (suc k) n = cond (ltb n 10) ((48 + n) ∷ []) (decimalDigits k (n / 10) ++ ((48 + n % 10) ∷ []))
 
 -- a number in decimal: no number has more than n + 1 digits
 unfoldable pub decimal : ℕ → List ℕ
-decimal n = digits (suc n) n
+decimal n = decimalDigits (suc n) n
 
 -- a number and the byte after it
 unfoldable pub numberText : ℕ → ℕ → List ℕ

@@ -12,8 +12,3 @@ pub record Wrote (old : List ℕ) (at : ℕ) (text new : List ℕ) (next : ℕ) 
   pub place : next ≡ at + length text
   pub within : next ≤ length old
   pub bytes : new ≡ take at old ++ (text ++ drop next old)
-
--- a character as a cell, or a cell as a character
-abbrev pub turned : Turn → ℕ → ℕ
-turned ToCells = cellOf
-turned ToCharacters = charOf

@@ -19,7 +19,7 @@ ghost use mathlib.Core.List.{[], _∷_};
 ghost use Prim.Native.Nat.{_+_, _*_, _≤_};
 ghost use lib.ListN.{length};
 ghost use Rattle.degree.specs.Degree.{bits, size};
-ghost use Rattle.line.specs.Refusals.{Tested};
+ghost use Rattle.line.specs.working.Calls.{Tested};
 ghost use Rattle.text.specs.Text.{firstLine, shaped, known, cellsOf, sheetTests, decodedText, printed};
 ghost use Rattle.text.specs.Writing.{Wrote};
 

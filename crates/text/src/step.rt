@@ -8,11 +8,11 @@ ghost use mathlib.Core.Path.{_≡_};
 ghost use Prim.Native.Nat.{_*_};
 ghost use lib.ListN.{length};
 ghost use Rattle.degree.specs.Degree.{bits, size};
-ghost use Rattle.array.specs.Steps.{IsArray};
-ghost use Rattle.array.specs.Runs.{Decoded};
+ghost use Rattle.array.specs.working.Steps.{IsArray};
+ghost use Rattle.array.specs.working.Runs.{DecodingDone};
 ghost use Rattle.text.specs.Text.{zeros};
 
-fn number_of(d: Degree) -> u64
+fn degree_number(d: Degree) -> u64
     ensures { λ r. ⌜ r ≡ bits d ⌝ }
 {
     match d {
@@ -24,11 +24,11 @@ fn number_of(d: Degree) -> u64
 // One iteration with zero filling. The call is never refused, for the degree, the lengths and the cells are as they should be.
 pub fn decoded(d: Degree, received: &[u8], cells: &mut [u8]) -> Report
     requires { ⌜ IsArray d (now received) × (length (now cells) ≡ size d * size d) ⌝ }
-    ensures { λ r. ⌜ Decoded d 1 (now (received .entry)) (zeros d) (now (cells .exit)) r ⌝ }
+    ensures { λ r. ⌜ DecodingDone d 1 (now (received .entry)) (zeros d) (now (cells .exit)) r ⌝ }
 {
     let filling = [0u64; 128];
     let words = 2 * size_of(d);
-    let answer = decode(number_of(d), 1, received, &filling[..words], cells);
+    let answer = decode(degree_number(d), 1, received, &filling[..words], cells);
     match answer {
         DecodeAnswer::Decoded(report) => report,
         DecodeAnswer::Refused(_) => Report {

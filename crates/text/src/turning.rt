@@ -4,7 +4,8 @@ ghost use mathlib.Core.List.{[], _∷_, map};
 ghost use Prim.Native.Nat.{_+_, _<_, _≤_};
 ghost use lib.ListN.{length};
 ghost use Rattle.text.specs.Text.{cellOf, charOf};
-ghost use Rattle.text.specs.Writing.{Wrote, turned};
+ghost use Rattle.text.specs.Writing.{Wrote};
+ghost use Rattle.text.specs.working.Turning.{turned};
 
 // Every byte that is written goes through here.
 pub fn put_byte(byte: u8, at: usize, output: &mut [u8]) -> usize

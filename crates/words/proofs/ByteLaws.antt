@@ -8,7 +8,7 @@ use native.Mathlib.Omega.{arith}
 use lib.ListN.{length, getD, take, drop, set}
 use lib.Pow.{shr-shr}
 use lib.Seq.{drop-cons, sets}
-use Rattle.words.specs.Bytes.{joined, bytesOf, gathered}
+use Rattle.words.specs.working.Bytes.{joined, bytesOf, gathered}
 
 -- ---- bytes joined
 

@@ -9,12 +9,13 @@ use native.Mathlib.Omega.{arith}
 use lib.Bits.{bitAnd, bitOr, and-block, and-mask}
 use lib.Dec.{T, eqb, eqb→eq}
 use lib.ListN.{length, getD}
-use Rattle.laws.specs.Digits.{digits, pack, sumOver}
+use Rattle.laws.specs.Digits.{digits, sumOver}
+use Rattle.laws.specs.working.Digits.{pack}
 use Rattle.laws.proofs.DigitSums.{digits-length}
 use Rattle.laws.proofs.Linear.{digits-bits, pack-digits}
 use Rattle.laws.proofs.Tests.{everyBits, every-bits-at}
 use Rattle.laws.proofs.Xor.{digit-lt}
-use Rattle.words.specs.Bytes.{joined, gathered}
+use Rattle.words.specs.working.Bytes.{joined, gathered}
 use Rattle.words.proofs.ByteLaws.{low-and-rest}
 
 -- ---- together

@@ -13,12 +13,12 @@ use lib.Dec.{T, eqb, eqb→eq}
 use lib.ListN.{length, getD, set, length-set, List·getD-eq-default}
 use lib.Pow.{pow-pos}
 use lib.Seq.{getD-set-same, getD-set-other}
-use Rattle.laws.specs.Bits.{bitAt}
+use Rattle.laws.specs.working.Bits.{bitAt}
 use Rattle.laws.specs.Tests.{every}
 use Rattle.laws.proofs.Xor.{bit-ind, digit-lt}
 use Rattle.laws.proofs.Bits.{xor-at, and-at, bit-at-lt, shr-at, shl-at, shl-low, mod-at}
 use Rattle.laws.proofs.Tests.{every-at, and-left, and-right}
-use Rattle.words.specs.Network.{cellAt, mixed, upper, lower, namesAt, masked, Swapped, Crossed, Turned}
+use Rattle.words.specs.working.Network.{cellAt, mixed, upper, lower, namesAt, masked, Swapped, Crossed, Turned}
 
 -- ---- a pair of rows
 
@@ -163,15 +163,15 @@ staged-next j m g q a b c e d s = record {
 
 module _ (k j m : ℕ) (t : T (masked k j m)) where
   -- what the mask's test says of a block's column
-  tested : (y q : ℕ) → y < k → q < j → T (namesAt j m y q)
+  names-at : (y q : ℕ) → y < k → q < j → T (namesAt j m y q)
   unfolding masked
-  tested y q h l = every-at (namesAt j m y) j (every-at (λ y. every (namesAt j m y) j) k t h) l
+  names-at y q h l = every-at (namesAt j m y) j (every-at (λ y. every (namesAt j m y) j) k t h) l
 
   named : (y q : ℕ) → y < k → q < j → bitAt m (y * (2 * j) + q) ≡ 1
-  named y q h l = eqb→eq (bitAt m (y * (2 * j) + q)) 1 (and-left (eqb (bitAt m (y * (2 * j) + q)) 1) (eqb (bitAt m (y * (2 * j) + (j + q))) 0) (tested y q h l))
+  named y q h l = eqb→eq (bitAt m (y * (2 * j) + q)) 1 (and-left (eqb (bitAt m (y * (2 * j) + q)) 1) (eqb (bitAt m (y * (2 * j) + (j + q))) 0) (names-at y q h l))
 
   unnamed : (y q : ℕ) → y < k → q < j → bitAt m (y * (2 * j) + (j + q)) ≡ 0
-  unnamed y q h l = eqb→eq (bitAt m (y * (2 * j) + (j + q))) 0 (and-right (eqb (bitAt m (y * (2 * j) + q)) 1) (eqb (bitAt m (y * (2 * j) + (j + q))) 0) (tested y q h l))
+  unnamed y q h l = eqb→eq (bitAt m (y * (2 * j) + (j + q))) 0 (and-right (eqb (bitAt m (y * (2 * j) + q)) 1) (eqb (bitAt m (y * (2 * j) + (j + q))) 0) (names-at y q h l))
 
   module _ (a b : List ℕ) (full : k * (2 * j) ≡ 64) (d : Staged j m k a b) where
     -- a square of blocks x and y: row p of its upper and of its lower half, column q of its left and of its right half

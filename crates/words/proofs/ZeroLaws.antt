@@ -15,7 +15,7 @@ use lib.ListN.{length, getD, List·getD-eq-default}
 use borrow.Author.Tests.{ne-eqb}
 use Rattle.laws.specs.Tests.{every}
 use Rattle.laws.proofs.Tests.{every-at}
-use Rattle.words.specs.Network.{Turned}
+use Rattle.words.specs.working.Network.{Turned}
 
 -- the first k words are 0
 abbrev pub Zeros : List ℕ → ℕ → Bool

@@ -4,7 +4,7 @@ ghost use Prim.Native.Nat.{_+_, _<_, _≤_, _%_};
 ghost use lib.ListN.{length, take, drop};
 ghost use lib.Seq.{sets};
 ghost use Rattle.laws.specs.Digits.{digits};
-ghost use Rattle.words.specs.Bytes.{joined, gathered, bytesOf};
+ghost use Rattle.words.specs.working.Bytes.{joined, gathered, bytesOf};
 
 fn wide(x: u8) -> u64
     ensures { λ r. ⌜ (r ≡ x) × (r < 256) ⌝ }

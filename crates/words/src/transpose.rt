@@ -3,7 +3,7 @@ ghost use mathlib.Core.Path.{_≡_};
 ghost use Prim.Native.Nat.{_+_, _*_, _<_, _≤_};
 ghost use lib.Dec.{T};
 ghost use lib.ListN.{length};
-ghost use Rattle.words.specs.Network.{upper, lower, masked, Swapped, Crossed, Turned};
+ghost use Rattle.words.specs.working.Network.{upper, lower, masked, Swapped, Crossed, Turned};
 
 struct Pair {
     x: u64,

@@ -1,10 +1,7 @@
 -- `array::encoding::encode` meets its contract: the tests of a taken call say that what is lent is of the right form.
 -- Assumes nothing.
-use mathlib.Core.Path.{sym, _∙_}
-use Rattle.line.proofs.Refusing.{given-taken, given-refused}
-use Rattle.array.specs.Encoding.{encodeArray}
-use Rattle.array.specs.Refusals.{encodeTests}
 use Rattle.array.proofs.Refusing.{encode-taken}
+use Rattle.array.proofs.EncodeLaws.{encoded-taken, encoded-refused}
 use borrow.Author.Needs.{needs}
 use Rattle.array.proofs.encoding.encode.Statement.{statement}
 use Rattle.array.proofs.encoding.encode.Tie as tie
@@ -34,11 +31,7 @@ returns : tie.Need-returns
 returns c =
     let q = c .before .before .before .before .before in
     let s = q .before .before .before .before .before .before .args in
-    let h = rw (q .call .given .1) at (q .before .before .encode-test .ensures) in
-    record {
-      refusal = sym (h .0);
-      cells = c .before .before .encode-array .ensures ∙ sym (given-taken (encodeTests (s .degree) (s .message .now) (s .cells .now)) (s .degree) (λ d. encodeArray d (s .message .now)) (s .cells .now) h);
-    }
+    encoded-taken (s .degree) (s .message .now) (s .cells .now) (rw (q .call .given .1) at (q .before .before .encode-test .ensures)) (c .before .before .encode-array .ensures)
 
 same-length-2 : tie.Need-same-length-2
 same-length-2 c = search needs
@@ -47,11 +40,8 @@ returns-2 : tie.Need-returns-2
 returns-2 c =
     let q = c .before .before in
     let s = q .before .before .before .before .before .before .args in
-    let h = rw (q .call2 .given .1) at (q .before .before .encode-test .ensures) in
-    record {
-      refusal = c .number-of .ensures ∙ h;
-      cells = sym (given-refused (encodeTests (s .degree) (s .message .now) (s .cells .now)) (s .degree) (λ d. encodeArray d (s .message .now)) (s .cells .now) (q .call2 .given .0 .0) h);
-    }
+    encoded-refused (s .degree) (s .message .now) (s .cells .now) (q .call2 .given .0 .0) (c .number-of .ensures)
+    (rw (q .call2 .given .1) at (q .before .before .encode-test .ensures))
 
 pub encode-spec : {M : Type 1} → statement M
 encode-spec =

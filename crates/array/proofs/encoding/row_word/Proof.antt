@@ -3,9 +3,9 @@
 use Prim.Native.Nat.{_-_, _≤_}
 use mathlib.Core.Path.{_≡_}
 use native.Mathlib.Omega.{arith}
-use Rattle.laws.specs.Sums.{xorTo}
-use Rattle.line.specs.Word.{value}
-use Rattle.array.specs.EncodedRows.{rowWord}
+use Rattle.laws.specs.working.Sums.{xorTo}
+use Rattle.line.specs.working.Word.{value}
+use Rattle.array.specs.working.EncodedRows.{rowWord}
 use Rattle.array.proofs.Loops.{row-next, row-all}
 use Rattle.array.proofs.encoding.row_word.Statement.{statement}
 use Rattle.array.proofs.encoding.row_word.Tie as tie

@@ -4,7 +4,7 @@ use Prim.Native.Nat.{_-_}
 use native.Mathlib.Omega.{arith}
 use lib.ListN.{length}
 use Rattle.laws.proofs.Bits.{bit-at-lt}
-use Rattle.line.specs.Word.{value}
+use Rattle.line.specs.working.Word.{value}
 use Rattle.array.proofs.Loops.{Writing, writing-start, writing-next, writing-end}
 use Rattle.array.proofs.encoding.write_row.Statement.{statement}
 use Rattle.array.proofs.encoding.write_row.Tie as tie

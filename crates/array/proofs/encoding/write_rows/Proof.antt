@@ -4,7 +4,7 @@ use Prim.Native.Nat.{_-_}
 use mathlib.Core.Path.{ap₂, _∙_}
 use native.Mathlib.Omega.{arith}
 use Rattle.laws.specs.Digits.{digits}
-use Rattle.array.specs.EncodedRows.{rowWord}
+use Rattle.array.specs.working.EncodedRows.{rowWord}
 use Rattle.line.proofs.Bounds.{square-le}
 use Rattle.laws.proofs.DigitSums.{digits-length}
 use Rattle.array.proofs.Loops.{Lining, lining-start, lining-room, lining-length, lining-next, lining-end}

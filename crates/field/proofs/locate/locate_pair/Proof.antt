@@ -8,7 +8,7 @@ use borrow.Author.Needs.{needs}
 use borrow.Author.Tests.{leb-true, ltb-true, ltb-false, le-leb}
 use lib.Dec.{leb, ltb}
 use Rattle.laws.proofs.Tests.{and-true}
-use Rattle.field.specs.Fitting.{Second}
+use Rattle.field.specs.working.Fitting.{Second}
 use Rattle.field.proofs.Primitive.{primitive}
 use Rattle.field.proofs.Search.{NoneBelow, none-next, pair-found, pair-unfit}
 use Rattle.field.proofs.locate.locate_pair.Statement.{statement}

@@ -7,7 +7,7 @@ use native.Mathlib.Nat.{div-one}
 use native.Mathlib.Omega.{arith}
 use Rattle.degree.specs.declared.Degree.{Degree}
 use Rattle.laws.specs.Digits.{sumOver, digits}
-use Rattle.field.specs.Tables.{Tables, weight}
+use Rattle.field.specs.working.Tables.{Tables, weight}
 use Rattle.field.proofs.Reading.{byte-next, rest-next}
 use Rattle.field.proofs.syndrome.weight_of.Statement.{statement}
 use Rattle.field.proofs.syndrome.weight_of.Tie as tie

@@ -5,7 +5,7 @@ use Prim.Native.Nat.{_≤_, _-_}
 use native.Mathlib.Omega.{arith}
 use borrow.Author.Needs.{needs}
 use lib.ListN.{length, length-set}
-use Rattle.field.specs.Building.{Doubled}
+use Rattle.field.specs.working.Building.{Doubled}
 use Rattle.field.proofs.Filling.{double-start, double-next}
 use Rattle.field.proofs.tables.double.Statement.{statement}
 use Rattle.field.proofs.tables.double.Tie as tie

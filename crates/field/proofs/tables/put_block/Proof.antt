@@ -4,7 +4,7 @@ use mathlib.Core.Path.{_≡_, refl, _∙_}
 use Prim.Native.Nat.{_≤_, _-_, _^_}
 use native.Mathlib.Omega.{arith}
 use lib.ListN.{length, length-set}
-use Rattle.field.specs.Building.{Block}
+use Rattle.field.specs.working.Building.{Block}
 use Rattle.field.proofs.Filling.{block-start, block-next, block-kept, double-room, double-size}
 use Rattle.field.proofs.tables.put_block.Statement.{statement}
 use Rattle.field.proofs.tables.put_block.Tie as tie

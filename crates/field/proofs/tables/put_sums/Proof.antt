@@ -5,7 +5,7 @@ use Prim.Native.Nat.{_≤_, _-_}
 use native.Mathlib.Omega.{arith}
 use borrow.Author.Needs.{needs}
 use lib.ListN.{length}
-use Rattle.field.specs.Building.{Summed}
+use Rattle.field.specs.working.Building.{Summed}
 use Rattle.field.proofs.Filling.{summed-start, summed-next}
 use Rattle.field.proofs.tables.put_sums.Statement.{statement}
 use Rattle.field.proofs.tables.put_sums.Tie as tie

@@ -6,7 +6,7 @@ use lib.Dec.{eqb}
 use borrow.Author.Needs.{needs}
 use Rattle.degree.specs.Degree.{size}
 use Rattle.field.proofs.Primitive.{primitive}
-use Rattle.line.specs.Working.{Below, failed}
+use Rattle.line.specs.working.Tries.{Below, failed}
 use Rattle.line.proofs.Tries.{last-below, zero-mended, one-mended, two-mended}
 use Rattle.line.proofs.bounded.mend.Statement.{statement}
 use Rattle.line.proofs.bounded.mend.Tie as tie

@@ -3,12 +3,14 @@
 -- Assumes nothing.
 use mathlib.Core.Path.{sym, _∙_}
 use mathlib.Core.List.{[]}
+use native.Mathlib.Omega.{arith}
 use borrow.Author.Needs.{needs}
 use Rattle.line.specs.Bounded.{bounded}
 use Rattle.line.specs.Decoding.{messages}
 use Rattle.line.specs.Clauses.{count}
 use Rattle.line.specs.Refusals.{messagesTests}
-use Rattle.line.proofs.Refusing.{given-taken, given-refused, messages-taken}
+use Rattle.line.proofs.Refusing.{known-size, given-taken, given-refused, messages-taken}
+use Rattle.line.proofs.CountLaws.{count-le}
 use Rattle.line.proofs.entry.line_messages.Statement.{statement}
 use Rattle.line.proofs.entry.line_messages.Tie as tie
 
@@ -39,6 +41,7 @@ returns c =
     record {
       refusal = sym (h .0);
       count = c .before .before .send-taken .ensures .0 ∙ sym (given-taken tests (s .degree) (λ d. count (bounded d) (s .incoming .now) (s .channel .now) (s .filling)) 0 h);
+      most = rw (c .before .before .send-taken .ensures .0, known-size (s .degree) (q .call .given .0 .0) (h .1)) (count-le (q .call .given .0 .0) (s .incoming .now) (s .channel .now) (s .filling) (messages-taken (s .degree) (s .incoming .now) (s .channel .now) (s .messages .now) (q .call .given .0 .0) h .0));
       cells = c .before .before .send-taken .ensures .1 ∙ sym (given-taken tests (s .degree) (λ d. messages (bounded d) (s .incoming .now) (s .channel .now) (s .filling)) (s .messages .now) h);
     }
 
@@ -54,6 +57,7 @@ returns-2 c =
     record {
       refusal = h;
       count = sym (given-refused tests (s .degree) (λ d. count (bounded d) (s .incoming .now) (s .channel .now) (s .filling)) 0 (q .call2 .given .0 .0) h);
+      most = omega arith;
       cells = sym (given-refused tests (s .degree) (λ d. messages (bounded d) (s .incoming .now) (s .channel .now) (s .filling)) (s .messages .now) (q .call2 .given .0 .0) h);
     }
 

@@ -5,7 +5,7 @@ use mathlib.Core.Bool.{true≢false}
 use native.Mathlib.Omega.{arith}
 use borrow.Author.Needs.{needs}
 use Rattle.degree.specs.Degree.{size}
-use Rattle.line.specs.Word.{value}
+use Rattle.line.specs.working.Word.{value}
 use Rattle.line.proofs.Choosing.{is-few, is-many}
 use Rattle.line.proofs.Starting.{many-start}
 use Rattle.line.proofs.messages.base_of.Statement.{statement}
@@ -17,11 +17,11 @@ count-erasures-requires c κs = search needs
 few-base-requires : tie.Need-few-base-requires
 few-base-requires c κs = search needs
 
-no-half-requires : tie.Need-no-half-requires
-no-half-requires c κs = search needs
+no-trial-requires : tie.Need-no-trial-requires
+no-trial-requires c κs = search needs
 
-no-half-requires-2 : tie.Need-no-half-requires-2
-no-half-requires-2 c κs = search needs
+no-trial-requires-2 : tie.Need-no-trial-requires-2
+no-trial-requires-2 c κs = search needs
 
 returns : tie.Need-returns
 returns c =
@@ -57,7 +57,7 @@ base-of-spec =
     (tie.spec
     count-erasures-requires
     few-base-requires
-    no-half-requires
-    no-half-requires-2
+    no-trial-requires
+    no-trial-requires-2
     returns
     returns-2)

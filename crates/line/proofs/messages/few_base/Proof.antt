@@ -5,7 +5,7 @@ use native.Mathlib.Omega.{arith}
 use borrow.Author.Needs.{needs}
 use Rattle.degree.specs.Degree.{size}
 use Rattle.line.specs.declared.side.Side.the-variants.{One, Two}
-use Rattle.line.specs.Word.{value}
+use Rattle.line.specs.working.Word.{value}
 use Rattle.line.specs.Cells.{filled}
 use Rattle.line.proofs.Starting.{few-start}
 use Rattle.line.proofs.messages.few_base.Statement.{statement}
@@ -35,23 +35,23 @@ choose-requires c κs = search needs
 or-back-requires : tie.Need-or-back-requires
 or-back-requires c κs = search needs
 
-array-copy-out-half-of : tie.Need-array-copy-out-half-of
-array-copy-out-half-of c = search needs
+array-copy-out-trial-of : tie.Need-array-copy-out-trial-of
+array-copy-out-trial-of c = search needs
 
-array-copy-out-half-of-2 : tie.Need-array-copy-out-half-of-2
-array-copy-out-half-of-2 c = search needs
+array-copy-out-trial-of-2 : tie.Need-array-copy-out-trial-of-2
+array-copy-out-trial-of-2 c = search needs
 
-half-of-requires : tie.Need-half-of-requires
-half-of-requires c κs = search needs
+trial-of-requires : tie.Need-trial-of-requires
+trial-of-requires c κs = search needs
 
-array-copy-out-half-of-3 : tie.Need-array-copy-out-half-of-3
-array-copy-out-half-of-3 c = search needs
+array-copy-out-trial-of-3 : tie.Need-array-copy-out-trial-of-3
+array-copy-out-trial-of-3 c = search needs
 
-array-copy-out-half-of-4 : tie.Need-array-copy-out-half-of-4
-array-copy-out-half-of-4 c = search needs
+array-copy-out-trial-of-4 : tie.Need-array-copy-out-trial-of-4
+array-copy-out-trial-of-4 c = search needs
 
-half-of-requires-2 : tie.Need-half-of-requires-2
-half-of-requires-2 c κs = search needs
+trial-of-requires-2 : tie.Need-trial-of-requires-2
+trial-of-requires-2 c κs = search needs
 
 returns : tie.Need-returns
 returns c =
@@ -73,11 +73,11 @@ returns c =
             filling = refl;
             erased = e;
             own = few-start (a .d) ys f rs few (c .before .before .before .before .before .before .or-back .ensures n ys _ p (c .before .before .before .before .before .before .before .choose .ensures n ys _ _ p one two));
-            one = λ _. c .before .before .before .half-of .ensures ys rs f One (w n ys p One) (v n rs q One) one;
-            two = λ _. c .half-of2 .ensures ys rs f Two (w n ys p Two) (v n rs q Two) two;
+            one = λ _. c .before .before .before .trial-of .ensures ys rs f One (w n ys p One) (v n rs q One) one;
+            two = λ _. c .trial-of2 .ensures ys rs f Two (w n ys p Two) (v n rs q Two) two;
             count = rw few (omega (arith, first .ensures .0, second .ensures .0));
           },
     )
 
 pub few-base-spec : {M : Type 1} → statement M
-few-base-spec = tie.close (tie.spec fill-requires fill-requires-2 array-copy-out-counted counted-requires array-copy-out-counted-2 counted-requires-2 choose-requires or-back-requires array-copy-out-half-of array-copy-out-half-of-2 half-of-requires array-copy-out-half-of-3 array-copy-out-half-of-4 half-of-requires-2 returns)
+few-base-spec = tie.close (tie.spec fill-requires fill-requires-2 array-copy-out-counted counted-requires array-copy-out-counted-2 counted-requires-2 choose-requires or-back-requires array-copy-out-trial-of array-copy-out-trial-of-2 trial-of-requires array-copy-out-trial-of-3 array-copy-out-trial-of-4 trial-of-requires-2 returns)

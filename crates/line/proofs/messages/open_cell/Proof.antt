@@ -5,9 +5,9 @@ use Rattle.degree.specs.Degree.{size}
 use Rattle.line.specs.declared.side.Side.the-variants.{One, Two}
 use Rattle.line.specs.Cells.{filled}
 use Rattle.line.specs.Decoding.{replaced}
-use Rattle.line.specs.Clauses.{settled}
-use Rattle.line.specs.Packed.{PacksWord}
-use Rattle.line.specs.Word.{value}
+use Rattle.line.specs.working.Settled.{settled}
+use Rattle.line.specs.working.Packed.{PacksWord}
+use Rattle.line.specs.working.Word.{value}
 use Rattle.line.proofs.messages.open_cell.Statement.{statement}
 use Rattle.line.proofs.messages.open_cell.Tie as tie
 

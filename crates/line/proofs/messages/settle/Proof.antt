@@ -9,9 +9,9 @@ use Rattle.degree.specs.Degree.{size}
 use Rattle.line.specs.declared.side.Side.the-variants.{One, Two}
 use Rattle.line.specs.Cells.{cell}
 use Rattle.line.specs.Decoding.{replaced}
-use Rattle.line.specs.Clauses.{settled}
-use Rattle.line.specs.Packed.{Packs}
-use Rattle.line.specs.Fillings.{Based}
+use Rattle.line.specs.working.Settled.{settled}
+use Rattle.line.specs.working.Packed.{Packs}
+use Rattle.line.specs.working.Fillings.{Based}
 use Rattle.line.proofs.Settling.{replaced-line, equal-cell, tried-at, few-of, fresh-count}
 use Rattle.line.proofs.messages.settle.Statement.{statement}
 use Rattle.line.proofs.messages.settle.Tie as tie

@@ -5,9 +5,9 @@ use Prim.Native.Nat.{_≤_, _+_, _-_, _%_}
 use native.Mathlib.Omega.{arith}
 use lib.ListN.{length, take}
 use lib.Seq.{take-all}
-use Rattle.line.specs.Word.{value}
-use Rattle.line.specs.Cells.{isOne, isErased}
-use Rattle.line.specs.Packed.{packBy}
+use Rattle.line.specs.working.Word.{value}
+use Rattle.line.specs.working.Packed.{isOne, packBy}
+use Rattle.line.specs.Cells.{isErased}
 use Rattle.words.proofs.ByteLaws.{gathered-lt}
 use Rattle.line.proofs.Gathering.{ones-more, twos-more}
 use Rattle.line.proofs.packed.pack.Statement.{statement}

@@ -9,8 +9,8 @@ use lib.ListN.{length, take}
 use lib.Seq.{take-all}
 use borrow.Author.Needs.{needs}
 use Rattle.laws.specs.Digits.{digits}
-use Rattle.line.specs.Word.{value}
-use Rattle.words.specs.Bytes.{joined}
+use Rattle.line.specs.working.Word.{value}
+use Rattle.words.specs.working.Bytes.{joined}
 use Rattle.line.proofs.Spreading.{cellsOf, unpack-turn, put-cells, cells-packed}
 use Rattle.line.proofs.packed.unpack.Statement.{statement}
 use Rattle.line.proofs.packed.unpack.Tie as tie

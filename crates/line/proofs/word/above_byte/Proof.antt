@@ -1,7 +1,7 @@
 -- `line::word::above_byte` meets its contract: as the machine does it.
 -- Assumes nothing.
 use mathlib.Core.Path.{refl}
-use Rattle.line.specs.Word.{value}
+use Rattle.line.specs.working.Word.{value}
 use Rattle.line.proofs.word.above_byte.Statement.{statement}
 use Rattle.line.proofs.word.above_byte.Tie as tie
 

@@ -3,7 +3,7 @@
 use borrow.Author.Needs.{needs}
 use Rattle.laws.specs.Digits.{digits}
 use Rattle.field.proofs.Weights.{s1-lt, s3-lt}
-use Rattle.line.specs.Word.{value}
+use Rattle.line.specs.working.Word.{value}
 use Rattle.line.proofs.RowLaws.{word-sums}
 use Rattle.line.proofs.word.check_sums.Statement.{statement}
 use Rattle.line.proofs.word.check_sums.Tie as tie

@@ -3,7 +3,7 @@
 use mathlib.Core.Path.{refl}
 use native.Mathlib.Omega.{arith}
 use lib.Count.{ones-le}
-use Rattle.line.specs.Word.{value}
+use Rattle.line.specs.working.Word.{value}
 use Rattle.line.proofs.word.count_bits.Statement.{statement}
 use Rattle.line.proofs.word.count_bits.Tie as tie
 

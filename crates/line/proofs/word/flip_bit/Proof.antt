@@ -1,7 +1,7 @@
 -- `line::word::flip_bit` meets its contract: a flip turns the one bit that packs the cell.
 -- Assumes nothing.
 use borrow.Author.Needs.{needs}
-use Rattle.line.specs.Word.{value}
+use Rattle.line.specs.working.Word.{value}
 use Rattle.line.proofs.Packing.{flip-packed}
 use Rattle.line.proofs.word.flip_bit.Statement.{statement}
 use Rattle.line.proofs.word.flip_bit.Tie as tie

@@ -1,7 +1,7 @@
 -- `line::word::to_number` meets its contract: the machine holds the number itself.
 -- Assumes nothing.
 use mathlib.Core.Path.{refl}
-use Rattle.line.specs.Word.{value}
+use Rattle.line.specs.working.Word.{value}
 use Rattle.line.proofs.word.to_number.Statement.{statement}
 use Rattle.line.proofs.word.to_number.Tie as tie
 

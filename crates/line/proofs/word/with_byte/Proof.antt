@@ -5,7 +5,7 @@ use borrow.Author.Needs.{needs}
 use mathlib.Core.Path.{ap}
 use lib.Bits.{bitOr}
 use lib.Pow.{shl-exact}
-use Rattle.line.specs.Word.{value}
+use Rattle.line.specs.working.Word.{value}
 use Rattle.line.proofs.word.with_byte.Statement.{statement}
 use Rattle.line.proofs.word.with_byte.Tie as tie
 

@@ -3,7 +3,7 @@
 use mathlib.Core.Path.{_≡_, refl, sym, _∙_}
 use borrow.Author.Needs.{needs}
 use lib.Bits.{xor-zero-r}
-use Rattle.line.specs.Word.{value}
+use Rattle.line.specs.working.Word.{value}
 use Rattle.line.proofs.word.xor_where.Statement.{statement}
 use Rattle.line.proofs.word.xor_where.Tie as tie
 

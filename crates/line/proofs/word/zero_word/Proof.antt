@@ -1,7 +1,7 @@
 -- `line::word::zero_word` meets its contract: the number is the machine word.
 -- Assumes nothing.
 use mathlib.Core.Path.{refl}
-use Rattle.line.specs.Word.{value}
+use Rattle.line.specs.working.Word.{value}
 use Rattle.line.proofs.word.zero_word.Statement.{statement}
 use Rattle.line.proofs.word.zero_word.Tie as tie
 

@@ -21,8 +21,8 @@ slice-aggregate-line-messages c =
 line-messages-requires : tie.Need-line-messages-requires
 line-messages-requires c κs = search needs
 
-sent-count-requires : tie.Need-sent-count-requires
-sent-count-requires c κs = search needs
+messages-count-requires : tie.Need-messages-count-requires
+messages-count-requires c κs = search needs
 
 slice-aggregate-tell : tie.Need-slice-aggregate-tell
 slice-aggregate-tell c = search needs
@@ -30,8 +30,8 @@ slice-aggregate-tell c = search needs
 tell-requires : tie.Need-tell-requires
 tell-requires c κs = search needs
 
-sent-refusal-requires : tie.Need-sent-refusal-requires
-sent-refusal-requires c κs = search needs
+messages-refusal-requires : tie.Need-messages-refusal-requires
+messages-refusal-requires c κs = search needs
 
 same-length : tie.Need-same-length
 same-length c = search needs
@@ -47,8 +47,8 @@ returns c =
     let h = q .before .before .before in
     let s = h .before .before .before .before .before .args in
     messages-told (s .degree) (s .incoming .now) (s .channel .now) (s .filling) (s .messages .now)
-    (lent-part (fits 1 (s .report .now)) (s .incoming .now) (h .lent .ensures)) (q .line-messages .ensures) (c .sent-refusal .ensures)
-    (t .tell .ensures ∙ ap (λ (x : ℕ). told (x ∷ []) (s .report .now)) (n .sent-count .ensures))
+    (lent-part (fits 1 (s .report .now)) (s .incoming .now) (h .lent .ensures)) (q .line-messages .ensures) (c .messages-refusal .ensures)
+    (t .tell .ensures ∙ ap (λ (x : ℕ). told (x ∷ []) (s .report .now)) (n .messages-count .ensures))
 
 pub pugdrel-messages-spec : {M : Type 1} → statement M
 pugdrel-messages-spec =
@@ -57,10 +57,10 @@ pugdrel-messages-spec =
     lent-requires
     slice-aggregate-line-messages
     line-messages-requires
-    sent-count-requires
+    messages-count-requires
     slice-aggregate-tell
     tell-requires
-    sent-refusal-requires
+    messages-refusal-requires
     same-length
     same-length-2
     returns)

@@ -1,10 +1,10 @@
--- `lines::sent_count` meets its contract: one case for each answer.
+-- `lines::messages_count` meets its contract: one case for each answer.
 -- Assumes nothing.
 use mathlib.Core.Path.{sym, ap}
-use Rattle.line.specs.Entries.{sentCount}
+use Rattle.line.specs.Entries.{messagesCount}
 use borrow.Author.Needs.{needs}
-use Rattle.pugdrel.proofs.lines.sent_count.Statement.{statement}
-use Rattle.pugdrel.proofs.lines.sent_count.Tie as tie
+use Rattle.pugdrel.proofs.lines.messages_count.Statement.{statement}
+use Rattle.pugdrel.proofs.lines.messages_count.Tie as tie
 
 enum-told : tie.Need-enum-told
 enum-told c = search needs
@@ -13,10 +13,10 @@ enum-known-answer : tie.Need-enum-known-answer
 enum-known-answer c = search needs
 
 returns : tie.Need-returns
-returns c = sym (ap sentCount (c .enum-told .given .1))
+returns c = sym (ap messagesCount (c .enum-told .given .1))
 
 returns-2 : tie.Need-returns-2
-returns-2 c = sym (ap sentCount (c .before .answer .given .1))
+returns-2 c = sym (ap messagesCount (c .before .answer .given .1))
 
-pub sent-count-spec : {M : Type 1} → statement M
-sent-count-spec = tie.close (tie.spec enum-told enum-known-answer returns returns-2)
+pub messages-count-spec : {M : Type 1} → statement M
+messages-count-spec = tie.close (tie.spec enum-told enum-known-answer returns returns-2)

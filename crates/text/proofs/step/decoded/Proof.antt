@@ -14,8 +14,8 @@ size-of-requires c κs = search needs
 mul-words : tie.Need-mul-words
 mul-words c = omega (arith, size-le (c .before .before .before .args .d) (c .size-of .ensures))
 
-number-of-requires : tie.Need-number-of-requires
-number-of-requires c κs = search needs
+degree-number-requires : tie.Need-degree-number-requires
+degree-number-requires c κs = search needs
 
 array-share-prefix-filling : tie.Need-array-share-prefix-filling
 array-share-prefix-filling c = omega (arith, size-le (c .before .before .before .before .args .d) (c .before .size-of .ensures))
@@ -42,7 +42,7 @@ returns c =
     let q = c .before .before .before .before .before in
     let s = q .before .before .before .before .before .before .before in
     let n = q .before .before .before .before .size-of .ensures in
-    decoded-answer (s .args .d) _ _ _ _ (q .before .before .before .number-of .ensures) (s .pre .0) (s .pre .1) (words-are (s .args .d) n) _ _ (q .decode .ensures) _ (c .before .answer .given .1)
+    decoded-answer (s .args .d) _ _ _ _ (q .before .before .before .degree-number .ensures) (s .pre .0) (s .pre .1) (words-are (s .args .d) n) _ _ (q .decode .ensures) _ (c .before .answer .given .1)
 
 same-length-2 : tie.Need-same-length-2
 same-length-2 c = search needs
@@ -52,7 +52,7 @@ returns-2 c =
     let q = c .before .before .before .before in
     let s = q .before .before .before .before .before .before .before in
     let n = q .before .before .before .before .size-of .ensures in
-    absurd (never-refused (s .args .d) _ _ _ _ (q .before .before .before .number-of .ensures) (s .pre .0) (s .pre .1) (words-are (s .args .d) n) _ _ (q .decode .ensures) _ (c .enum-told .given .1))
+    absurd (never-refused (s .args .d) _ _ _ _ (q .before .before .before .degree-number .ensures) (s .pre .0) (s .pre .1) (words-are (s .args .d) n) _ _ (q .decode .ensures) _ (c .enum-told .given .1))
 
 pub decoded-spec : {M : Type 1} → statement M
 decoded-spec =
@@ -60,7 +60,7 @@ decoded-spec =
     (tie.spec
     size-of-requires
     mul-words
-    number-of-requires
+    degree-number-requires
     array-share-prefix-filling
     slice-aggregate-decode
     decode-requires

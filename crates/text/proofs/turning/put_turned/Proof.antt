@@ -4,7 +4,8 @@ use Prim.Native.Nat.{_-_, _≤_}
 use mathlib.Core.List.{map}
 use native.Mathlib.Omega.{arith}
 use lib.ListN.{length, take}
-use Rattle.text.specs.Writing.{Wrote, turned}
+use Rattle.text.specs.Writing.{Wrote}
+use Rattle.text.specs.working.Turning.{turned}
 use Rattle.text.proofs.WritingLaws.{wrote-none, wrote-map, wrote-length, wrote-mapped, wrote-end}
 use Rattle.text.proofs.turning.put_turned.Statement.{statement}
 use Rattle.text.proofs.turning.put_turned.Tie as tie

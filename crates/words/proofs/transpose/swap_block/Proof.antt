@@ -5,7 +5,7 @@ use Prim.Native.Nat.{_-_}
 use mathlib.Core.Path.{_≡_, sym, _∙_}
 use native.Mathlib.Omega.{arith}
 use lib.ListN.{length-set}
-use Rattle.words.specs.Network.{Swapped}
+use Rattle.words.specs.working.Network.{Swapped}
 use Rattle.words.proofs.SwapLaws.{swapped-none, swapped-next}
 use Rattle.words.proofs.transpose.swap_block.Statement.{statement}
 use Rattle.words.proofs.transpose.swap_block.Tie as tie

@@ -2,7 +2,7 @@
 -- Assumes nothing.
 use mathlib.Core.Path.{refl}
 use borrow.Author.Needs.{needs}
-use Rattle.words.specs.Network.{masked}
+use Rattle.words.specs.working.Network.{masked}
 use Rattle.words.proofs.SwapLaws.{turned}
 use Rattle.words.proofs.transpose.transpose_words.Statement.{statement}
 use Rattle.words.proofs.transpose.transpose_words.Tie as tie

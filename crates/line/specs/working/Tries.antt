@@ -8,12 +8,12 @@ use Rattle.degree.specs.declared.Degree.{Degree}
 use Rattle.field.specs.declared.locate.Positions.{Positions}
 use Rattle.field.specs.declared.locate.Positions.the-variants.{Zero, One, Two, Unfit}
 use Rattle.degree.specs.Degree.{order}
-use Rattle.field.specs.Positions.{atMostOne}
+use Rattle.field.specs.working.Positions.{atMostOne}
 use Rattle.line.specs.declared.bounded.Tried.{Tried}
 use Rattle.line.specs.Bounded.{Answer, Found, Failed}
 use Rattle.line.specs.Cells.{flip}
-use Rattle.line.specs.Packed.{PacksWord}
-use Rattle.line.specs.Word.{value}
+use Rattle.line.specs.working.Packed.{PacksWord}
+use Rattle.line.specs.working.Word.{value}
 
 -- what is found for a word, from the error positions and whether its ones are even in number: the cells at the positions are
 -- flipped, and the last cell too where the ones would stay odd in number, as long as that makes at most two

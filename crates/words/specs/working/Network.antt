@@ -7,7 +7,7 @@ use Prim.Native.Nat.{ℕ, _+_, _*_, _/_, _%_, _^_, _<_, _≤_}
 use lib.Bits.{bitAnd, bitXor}
 use lib.Dec.{eqb}
 use lib.ListN.{length, getD}
-use Rattle.laws.specs.Bits.{bitAt}
+use Rattle.laws.specs.working.Bits.{bitAt}
 use Rattle.laws.specs.Tests.{every}
 
 -- bit c of word r

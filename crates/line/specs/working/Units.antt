@@ -3,7 +3,8 @@ use mathlib.Core.Path.{_≡_}
 use mathlib.Core.List.{List}
 use Prim.Native.Nat.{ℕ, _^_, _<_, _≤_}
 use lib.ListN.{length, getD}
-use Rattle.laws.specs.Digits.{digits, pack}
+use Rattle.laws.specs.Digits.{digits}
+use Rattle.laws.specs.working.Digits.{pack}
 use Rattle.degree.specs.declared.Degree.{Degree}
 use Rattle.line.specs.Encoding.{messageSize, encodeLine}
 

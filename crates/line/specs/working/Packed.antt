@@ -3,13 +3,21 @@ use mathlib.Core.Path.{_≡_}
 use mathlib.Core.Bool.{Bool, true, false}
 use mathlib.Core.List.{List, [], _∷_}
 use Prim.Native.Nat.{ℕ, _+_, _*_, _≤_}
+use lib.Dec.{eqb}
 use lib.ListN.{getD}
 use Rattle.line.specs.declared.side.Side.{Side}
 use Rattle.line.specs.declared.side.Side.the-variants.{One, Two}
 use Rattle.line.specs.declared.word.Word.{Word}
 use Rattle.line.specs.declared.packed.Line.{Line}
-use Rattle.line.specs.Word.{value, width, noCells}
-use Rattle.line.specs.Cells.{Cells, bit, isOne, isErased}
+use Rattle.line.specs.working.Word.{value, width, noCells}
+use Rattle.line.specs.Cells.{Cells, bit, isErased}
+
+-- a line of n cells, which are 0, 1 or 2
+abbrev pub IsLine : ℕ → List ℕ → Type 0
+IsLine = Cells 3
+
+abbrev pub isOne : ℕ → Bool
+isOne c = eqb c 1
 
 -- the word whose bit i says whether p holds of element i
 unfoldable pub packBy : (ℕ → Bool) → List ℕ → ℕ

@@ -8,7 +8,7 @@ use Rattle.degree.specs.Degree.{size}
 use Rattle.line.specs.Cells.{IsWord, erasures as erasuresIn}
 use Rattle.array.specs.declared.report.Report.{Report}
 use Rattle.array.specs.Arrays.{transpose}
-use Rattle.array.specs.PackedRows.{Held}
+use Rattle.array.specs.working.PackedRows.{Held}
 use Rattle.array.specs.Plain.{plain, plainCount, closed as closedIn}
 
 -- n by n cells, which are 0 or 1
@@ -28,7 +28,7 @@ pub record Told (d : Degree) (m : List ℕ) (total : ℕ) (r : Report) : Type 0 
   pub closed : r .closed ≡ closedIn d m
 
 -- a whole decoding of r: the cells that it leaves, and its report
-pub record Decoded (d : Degree) (l : ℕ) (r w after : List ℕ) (t : Report) : Type 0 where
+pub record DecodingDone (d : Degree) (l : ℕ) (r w after : List ℕ) (t : Report) : Type 0 where
   pub cells : after ≡ plain d l r r w
   pub count : t .count ≡ plainCount d l r r w
   pub erasures : t .erasures ≡ erasuresIn (plain d l r r w)

@@ -1,14 +1,14 @@
 -- The rows of an array packed in 128 words. Only this file and the code's `packing` know how.
 use mathlib.Core.Path.{_≡_}
 use mathlib.Core.Bool.{Bool}
-use mathlib.Core.List.{List}
+use mathlib.Core.List.{List, _++_}
 use Prim.Native.Nat.{ℕ, _+_, _*_, _<_, _≤_}
-use lib.ListN.{length, getD}
-use Rattle.line.specs.Cells.{IsLine, isOne, isErased}
-use Rattle.line.specs.Packed.{packBy, Packs}
+use lib.ListN.{length, getD, take, drop}
+use Rattle.line.specs.working.Packed.{IsLine, isOne, packBy, Packs}
+use Rattle.line.specs.Cells.{isErased}
 use Rattle.line.specs.declared.packed.Line.{Line}
-use Rattle.words.specs.Network.{Turned}
-use Rattle.array.specs.Arrays.{line, withLine, transpose}
+use Rattle.words.specs.working.Network.{Turned}
+use Rattle.array.specs.Arrays.{line, transpose}
 
 -- word i packs line i of m by p: past the last line a line is empty, and its word 0
 abbrev pub RowWords : (ℕ → Bool) → ℕ → List ℕ → (ℕ → ℕ) → Type 0
@@ -21,6 +21,10 @@ pub record Held (n : ℕ) (m rows : List ℕ) : Type 0 where
   pub long : length rows ≡ 128
   pub ones : RowWords isOne n m (λ i. getD rows i 0)
   pub erased : RowWords isErased n m (λ i. getD rows (64 + i) 0)
+
+-- an array with line i made y
+abbrev pub withLine : ℕ → List ℕ → ℕ → List ℕ → List ℕ
+withLine n m i y = take (i * n) m ++ (y ++ drop n (drop (i * n) m))
 
 -- l is line i of packed rows
 abbrev pub LineIn : List ℕ → ℕ → Line → Type 0

@@ -6,14 +6,14 @@ use lib.ListN.{length}
 use Rattle.degree.specs.declared.Degree.{Degree}
 use Rattle.degree.specs.Degree.{size}
 use Rattle.line.specs.declared.packed.Line.{Line}
-use Rattle.line.specs.declared.decoding.Sent.{Sent}
+use Rattle.line.specs.declared.decoding.LineTally.{LineTally}
 use Rattle.line.specs.Bounded.{bounded}
 use Rattle.line.specs.Decoding.{messages}
 use Rattle.line.specs.Clauses.{count}
-use Rattle.line.specs.Packed.{Packs}
+use Rattle.line.specs.working.Packed.{Packs}
 
 -- a row that a packed line holds, replaced by its messages, which are handed back packed, with the count of the line
-pub record SentRow (d : Degree) (old channel : Line) (filling : ℕ) (before after : List ℕ) (s : Sent) : Type 0 where
+pub record SentRow (d : Degree) (old channel : Line) (filling : ℕ) (before after : List ℕ) (s : LineTally) : Type 0 where
   pub long : length after ≡ length before
   pub cells : (rs : List ℕ) → Packs (size d) before old → Packs (size d) rs channel → after ≡ messages (bounded d) before rs filling
   pub line : (rs : List ℕ) → Packs (size d) before old → Packs (size d) rs channel → Packs (size d) (messages (bounded d) before rs filling) (s .line)

@@ -3,11 +3,11 @@
 use mathlib.Core.List.{List}
 use Prim.Native.Nat.{ℕ, _*_, _<_}
 use lib.ListN.{getD}
-use Rattle.laws.specs.Bits.{bitAt}
-use Rattle.laws.specs.Sums.{xorTo}
+use Rattle.laws.specs.working.Bits.{bitAt}
+use Rattle.laws.specs.working.Sums.{xorTo}
 use Rattle.degree.specs.declared.Degree.{Degree}
 use Rattle.degree.specs.Degree.{size}
-use Rattle.line.specs.Packed.{PacksWord}
+use Rattle.line.specs.working.Packed.{PacksWord}
 use Rattle.line.specs.Encoding.{messageSize, encodeLine}
 use Rattle.array.specs.Arrays.{line}
 

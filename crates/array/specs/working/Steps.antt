@@ -4,8 +4,8 @@ use mathlib.Core.List.{List}
 use Prim.Native.Nat.{ℕ, _*_}
 use Rattle.degree.specs.declared.Degree.{Degree}
 use Rattle.degree.specs.Degree.{size}
-use Rattle.line.specs.Cells.{IsLine}
-use Rattle.array.specs.PackedRows.{Held}
+use Rattle.line.specs.working.Packed.{IsLine}
+use Rattle.array.specs.working.PackedRows.{Held}
 
 -- n by n cells, which are 0, 1 or 2
 abbrev pub IsArray : Degree → List ℕ → Type 0

@@ -10,12 +10,13 @@ use lib.Bits.{bitAnd, bitOr, bitXor, xor-zero-r}
 use lib.Count.{ones}
 use lib.ListN.{length, set}
 use lib.Pow.{pow-mono}
-use Rattle.laws.specs.Bits.{bit, xorb}
+use Rattle.laws.specs.Bits.{bit}
+use Rattle.laws.specs.working.Bits.{xorb}
 use Rattle.laws.proofs.Xor.{bit-ind}
 use Rattle.laws.proofs.Bits.{half-bit, low-bit, bit-lt, split-low, and-bits, or-bits, xor-bits, not-bits, ones-bits, shift-more}
 use Rattle.line.specs.declared.side.Side.the-variants.{One, Two}
-use Rattle.line.specs.Cells.{cell, isOne, isErased, erasures, differs, distance, filledCell, filled}
-use Rattle.line.specs.Packed.{packBy}
+use Rattle.line.specs.Cells.{cell, isErased, erasures, differs, distance, filledCell, filled}
+use Rattle.line.specs.working.Packed.{isOne, packBy}
 
 -- ---- the word that packs a list
 

@@ -8,7 +8,7 @@ use Rattle.field.specs.declared.locate.Positions.{Positions}
 use Rattle.field.specs.declared.locate.Positions.the-variants.{Zero, One, Two, Unfit}
 use Rattle.degree.specs.Degree.{order}
 use Rattle.field.specs.Field.{power}
-use Rattle.field.specs.Positions.{total}
+use Rattle.field.specs.working.Positions.{total}
 
 -- a set of positions below n, the lower one first
 abbrev pub Within : ℕ → Positions → Type 0

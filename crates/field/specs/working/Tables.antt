@@ -4,7 +4,8 @@ use mathlib.Core.Path.{_≡_}
 use mathlib.Core.List.{List}
 use Prim.Native.Nat.{ℕ, _+_, _*_, _<_}
 use lib.ListN.{length, getD}
-use Rattle.laws.specs.Digits.{sumOver, digits, upTo}
+use Rattle.laws.specs.Digits.{sumOver, digits}
+use Rattle.laws.specs.working.Digits.{upTo}
 use Rattle.degree.specs.declared.Degree.{Degree}
 use Rattle.degree.specs.Degree.{size, order}
 use Rattle.field.specs.Field.{power}

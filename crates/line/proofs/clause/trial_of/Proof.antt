@@ -1,11 +1,11 @@
--- `line::clause::half_of` meets its contract: the distance is counted once, from the filled word to what it gave.
+-- `line::clause::trial_of` meets its contract: the distance is counted once, from the filled word to what it gave.
 -- Assumes nothing.
 use borrow.Author.Needs.{needs}
 use Rattle.degree.specs.Degree.{size}
 use Rattle.line.specs.Cells.{filled}
 use Rattle.line.proofs.Reaching.{word-of}
-use Rattle.line.proofs.clause.half_of.Statement.{statement}
-use Rattle.line.proofs.clause.half_of.Tie as tie
+use Rattle.line.proofs.clause.trial_of.Statement.{statement}
+use Rattle.line.proofs.clause.trial_of.Tie as tie
 
 full-requires : tie.Need-full-requires
 full-requires c κs = search needs
@@ -19,5 +19,5 @@ returns c =
     let n = size (c .before .before .args .d) in
     record { before = p; channel = q; tried = l; far = λ e h. c .count-differences .ensures n (filled s ys f) e (c .before .full .ensures n (filled s ys f) p) (word-of l e h) }
 
-pub half-of-spec : {M : Type 1} → statement M
-half-of-spec = tie.close (tie.spec full-requires count-differences-requires returns)
+pub trial-of-spec : {M : Type 1} → statement M
+trial-of-spec = tie.close (tie.spec full-requires count-differences-requires returns)

@@ -5,26 +5,26 @@ use mathlib.Core.Bool.{Bool, true, false, cond, not, _&&_, _||_}
 use mathlib.Core.List.{List}
 use Prim.Native.Nat.{ℕ, _^_, _<_}
 use lib.Dec.{eqb, ltb}
-use Rattle.laws.specs.Bits.{bitAt}
+use Rattle.laws.specs.working.Bits.{bitAt}
 use Rattle.degree.specs.declared.Degree.{Degree}
 use Rattle.degree.specs.Degree.{size}
 use Rattle.line.specs.declared.side.Side.{Side}
 use Rattle.line.specs.declared.side.Side.the-variants as side
 use Rattle.line.specs.declared.bounded.Tried.{Tried}
-use Rattle.line.specs.declared.clause.Half.{Half}
+use Rattle.line.specs.declared.clause.Trial.{Trial}
 use Rattle.line.specs.declared.clause.Seen.{Seen}
 use Rattle.line.specs.declared.clause.Base.{Base}
 use Rattle.line.specs.Cells.{cell, erasures, few, distance, filled, radius}
 use Rattle.line.specs.Bounded.{Found, bounded}
 use Rattle.line.specs.Decoding.{decoded, message}
 use Rattle.line.specs.Clauses.{reach, same, answerCell, after, cost, clause}
-use Rattle.line.specs.Packed.{Packs, PacksWord}
-use Rattle.line.specs.Word.{value}
-use Rattle.line.specs.Working.{Answers}
+use Rattle.line.specs.working.Packed.{Packs, PacksWord}
+use Rattle.line.specs.working.Word.{value}
+use Rattle.line.specs.working.Tries.{Answers}
 
 module _ (d : Degree) (ys rs : List ℕ) (f : ℕ) where
   -- a filling of the incoming line, and of the channel line by the same bits; what it gave, and how far that is
-  pub record Halves (s : Side) (h : Half) : Type 0 where
+  pub record TrialOf (s : Side) (h : Trial) : Type 0 where
     pub before : PacksWord (size d) (filled s ys f) (value (h .before))
     pub channel : PacksWord (size d) (filled s rs f) (value (h .channel))
     pub tried : Answers (size d) (bounded d (filled s ys f)) (h .tried)
@@ -48,8 +48,8 @@ module _ (d : Degree) (ys rs : List ℕ) (f : ℕ) where
     pub filling : value (b .filling) ≡ f
     pub erased : b .erased ≡ erasures ys
     pub own : Packs (size d) start (b .own)
-    pub one : few ys ≡ true → Halves side.One (b .one)
-    pub two : few ys ≡ true → Halves side.Two (b .two)
+    pub one : few ys ≡ true → TrialOf side.One (b .one)
+    pub two : few ys ≡ true → TrialOf side.Two (b .two)
     pub count : b .count ≡ cond (few ys) 2 0
 
   -- the messages of the cells whose bit is not set in a mask are the cells of that line, and cost nothing
@@ -59,7 +59,7 @@ module _ (d : Degree) (ys rs : List ℕ) (f : ℕ) where
 
 -- a codeword that was found stays in reach at cell k: it lies nearer than the radius, or the filled bit is unchanged, or the change does
 -- not lead away from it
-abbrev pub stays : Half → ℕ → Bool
+abbrev pub stays : Trial → ℕ → Bool
 stays h k =
     let before = bitAt (value (h .before)) k in
     ltb (h .far) radius || (eqb before (bitAt (value (h .channel)) k) || not (eqb (bitAt (value (h .tried .word)) k) before))

@@ -4,7 +4,7 @@ use mathlib.Core.List.{List}
 use Prim.Native.Nat.{ℕ}
 use lib.ListN.{length}
 use Rattle.line.specs.declared.packed.Line.{Line}
-use Rattle.line.specs.Packed.{Packs}
+use Rattle.line.specs.working.Packed.{Packs}
 
 -- a row that held one packed line holds another
 pub record Updated (old new : Line) (before after : List ℕ) : Type 0 where

@@ -3,7 +3,7 @@
 use mathlib.Core.List.{List}
 use Prim.Native.Nat.{ℕ}
 use Rattle.degree.specs.declared.Degree.{Degree}
-use Rattle.field.specs.Tables.{Tables}
+use Rattle.field.specs.working.Tables.{Tables}
 
 -- t holds the tables of degree d
 abbrev pub TablesOf : Degree → List ℕ → Type 0

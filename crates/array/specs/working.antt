@@ -1,0 +1,4 @@
+pub mod EncodedRows
+pub mod PackedRows
+pub mod Runs
+pub mod Steps

@@ -1,0 +1,6 @@
+pub mod Building
+pub mod Checks
+pub mod Fitting
+pub mod Positions
+pub mod Products
+pub mod Tables

@@ -1,0 +1,10 @@
+pub mod Calls
+pub mod Fillings
+pub mod Packed
+pub mod Rows
+pub mod SentRows
+pub mod Settled
+pub mod Tables
+pub mod Tries
+pub mod Units
+pub mod Word
