@@ -96,7 +96,13 @@ pub fn counted(d: Degree, word: Word, count: u64, tables: &LineTables) -> Tally
     requires { ⌜ (count < 1000) × TablesOf d (now tables) ⌝ }
     ensures { λ r. ⌜ (r .count ≡ count + 1) × ((ws : List ℕ) → PacksWord (size d) ws (value word) → Answers (size d) (bounded d ws) (r .tried)) ⌝ }
 {
-    let tried = bounded_word(d, word, tables);
+    let answer = bounded_word(d, word, tables);
+    let found = answer.found; // one byte by itself: a copy of the whole answer would read eight where one was just written
+    let codeword = answer.word;
+    let tried = Tried {
+        found,
+        word: codeword,
+    };
     let next = count + 1;
     Tally { tried, count: next }
 }

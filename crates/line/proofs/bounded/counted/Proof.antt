@@ -12,7 +12,7 @@ add-next : tie.Need-add-next
 add-next c = search needs
 
 returns : tie.Need-returns
-returns c = (refl, c .bounded-word .ensures)
+returns c = (refl, c .before .bounded-word .ensures)
 
 pub counted-spec : {M : Type 1} → statement M
 counted-spec = tie.close (tie.spec bounded-word-requires add-next returns)
