@@ -38,32 +38,20 @@ rowPart degree cells index = given degree (rowTests degree cells index []) (λ d
 
 -- ---- the answer of decode in document 01's numbers: the refusal, 0 for none; the count; the unsure cells; closed
 
-abbrev pub refusalOf : DecodeAnswer → ℕ
-refusalOf (answer.Refused why) = number why
-refusalOf (answer.Decoded t) = 0
-
-abbrev pub countOf : DecodeAnswer → ℕ
-countOf (answer.Refused why) = 0
-countOf (answer.Decoded t) = t .count
-
-abbrev pub erasuresOf : DecodeAnswer → ℕ
-erasuresOf (answer.Refused why) = 0
-erasuresOf (answer.Decoded t) = t .erasures
-
-abbrev pub closedOf : DecodeAnswer → Bool
-closedOf (answer.Refused why) = false
-closedOf (answer.Decoded t) = t .closed
+abbrev pub decodeNumbers : DecodeAnswer → ℕ × ℕ × ℕ × Bool
+decodeNumbers (answer.Refused why) = (number why, 0, 0, false)
+decodeNumbers (answer.Decoded t) = (0, t .count, t .erasures, t .closed)
 
 -- ---- decode: the plain decoding of the received array r by l iterations with filling words w. "A refused call makes no step of
 -- it."
 
 pub record DecodeDone (degree l : ℕ) (r w before after : List ℕ) (a : DecodeAnswer) : Type 0 where
-  pub refusal : refusalOf a ≡ refusal (decodeTests degree l r w before [])
-  pub count : countOf a ≡ given degree (decodeTests degree l r w before []) (λ d. plainCount d l r r w) 0
+  pub refusal : decodeNumbers a .0 ≡ refusal (decodeTests degree l r w before [])
+  pub count : decodeNumbers a .1 ≡ given degree (decodeTests degree l r w before []) (λ d. plainCount d l r r w) 0
   -- "at most n + 2 a line", of 2 l n lines
-  pub most : countOf a ≤ 2 * l * 2 ^ degree * (2 ^ degree + 2)
-  pub erasures : erasuresOf a ≡ given degree (decodeTests degree l r w before []) (λ d. erasuresIn (plain d l r r w)) 0
-  pub closed : closedOf a ≡ given degree (decodeTests degree l r w before []) (λ d. closedIn d (plain d l r r w)) false
+  pub most : decodeNumbers a .1 ≤ 2 * l * 2 ^ degree * (2 ^ degree + 2)
+  pub erasures : decodeNumbers a .2 ≡ given degree (decodeTests degree l r w before []) (λ d. erasuresIn (plain d l r r w)) 0
+  pub closed : decodeNumbers a .3 ≡ given degree (decodeTests degree l r w before []) (λ d. closedIn d (plain d l r r w)) false
   pub cells : after ≡ given degree (decodeTests degree l r w before []) (λ d. plain d l r r w) before
   -- demand 3, last sentence: for every sent array s near which each received row is, the cells left are those of s, and closed
-  pub sent : (d : Degree) (s : List ℕ) → refusalOf a ≡ 0 → named degree ≡ Known d → SentArray d s → RowCondition d r s → (after ≡ s) × (closedOf a ≡ true)
+  pub sent : (d : Degree) (s : List ℕ) → decodeNumbers a .0 ≡ 0 → named degree ≡ Known d → SentArray d s → RowCondition d r s → (after ≡ s) × (decodeNumbers a .3 ≡ true)

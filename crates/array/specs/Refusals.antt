@@ -15,22 +15,18 @@ messageCells degree = 2 ^ degree - 1 - 2 * degree
 -- encode: a message of k by k bits, and n by n cells to write
 unfoldable pub encodeTests : (degree : ℕ) (message cells : List ℕ) → List (ℕ × Bool)
 encodeTests degree message cells =
-    let n = 2 ^ degree in
-    let k = messageCells degree in
+    let n = 2 ^ degree in let k = messageCells degree in
     (1, unnamed degree)
     ∷ (3, some (misfit (length message) (k * k) ∷ misfit (length cells) (n * n) ∷ []))
-    ∷ (4, not (atMost 1 message))
-    ∷ []
+    ∷ (4, not (atMost 1 message)) ∷ []
 
 -- extract: an array of n by n cells, and a message of k by k cells to write
 unfoldable pub extractTests : (degree : ℕ) (cells message : List ℕ) → List (ℕ × Bool)
 extractTests degree cells message =
-    let n = 2 ^ degree in
-    let k = messageCells degree in
+    let n = 2 ^ degree in let k = messageCells degree in
     (1, unnamed degree)
     ∷ (3, some (misfit (length cells) (n * n) ∷ misfit (length message) (k * k) ∷ []))
-    ∷ (4, not (atMost 2 cells))
-    ∷ []
+    ∷ (4, not (atMost 2 cells)) ∷ []
 
 -- the look-up of a row of an array of n by n cells; "a row number of n or more is refused as 3"
 unfoldable pub rowTests : (degree : ℕ) (cells : List ℕ) (index : ℕ) (more : List Bool) → List (ℕ × Bool)
@@ -38,8 +34,7 @@ rowTests degree cells index more =
     let n = 2 ^ degree in
     (1, unnamed degree)
     ∷ (3, some (misfit (length cells) (n * n) ∷ leb n index ∷ more))
-    ∷ (4, not (atMost 2 cells))
-    ∷ []
+    ∷ (4, not (atMost 2 cells)) ∷ []
 
 -- decode, l iterations: n by n cells received, 2 × l × n filling words, and n by n cells to write, whose old values are not tested
 unfoldable pub decodeTests : (degree l : ℕ) (received filling cells : List ℕ) (more : List Bool) → List (ℕ × Bool)
@@ -48,5 +43,4 @@ decodeTests degree l received filling cells more =
     (1, unnamed degree)
     ∷ (2, eqb l 0 || ltb 20 l)
     ∷ (3, some (misfit (length received) (n * n) ∷ misfit (length filling) (2 * l * n) ∷ misfit (length cells) (n * n) ∷ more))
-    ∷ (4, not (atMost 2 received))
-    ∷ []
+    ∷ (4, not (atMost 2 received)) ∷ []

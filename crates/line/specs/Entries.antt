@@ -13,36 +13,29 @@ use Rattle.line.specs.Decoding.{decode, messages}
 use Rattle.line.specs.Clauses.{count as countBy}
 use Rattle.line.specs.Refusals.{number, refusal, given, lineTests, messagesTests}
 
--- ---- the answers in document 01's numbers: the refusal, 0 for none; found, yes or no; the count
+-- ---- the answers in document 01's numbers
 
-abbrev pub refusalOf : LineAnswer → ℕ
-refusalOf (line.Refused why) = number why
-refusalOf line.Failed = 0
-refusalOf line.Found = 0
-
-abbrev pub foundOf : LineAnswer → Bool
-foundOf (line.Refused why) = false
-foundOf line.Failed = false
-foundOf line.Found = true
+-- the refusal, 0 for none; found
+abbrev pub lineNumbers : LineAnswer → ℕ × Bool
+lineNumbers (line.Refused why) = (number why, false)
+lineNumbers line.Failed = (0, false)
+lineNumbers line.Found = (0, true)
 
 abbrev pub isFound : Answer → Bool
 isFound (Found c) = true
 isFound Failed = false
 
-abbrev pub messagesRefusal : MessagesAnswer → ℕ
-messagesRefusal (out.Refused why) = number why
-messagesRefusal (out.Written n) = 0
-
-abbrev pub messagesCount : MessagesAnswer → ℕ
-messagesCount (out.Refused why) = 0
-messagesCount (out.Written n) = n
+-- the refusal, 0 for none; the count
+abbrev pub messagesNumbers : MessagesAnswer → ℕ × ℕ
+messagesNumbers (out.Refused why) = (number why, 0)
+messagesNumbers (out.Written n) = (0, n)
 
 -- ---- the promises
 
 -- an answer to a line or word, and its cells: "a failed word is given back as it came", and so is a refused one
 pub record Answered (no : ℕ) (a : Answer) (before after : List ℕ) (r : LineAnswer) : Type 0 where
-  pub refusal : refusalOf r ≡ no
-  pub found : foundOf r ≡ isFound a
+  pub refusal : lineNumbers r .0 ≡ no
+  pub found : lineNumbers r .1 ≡ isFound a
   pub cells : after ≡ orBack before a
 
 -- bounded-distance decoding of a word, whose cells are 0 or 1: "the one codeword within 2 of a full word. It fails exactly if
@@ -60,8 +53,8 @@ DecodeLineDone degree filling before after =
 
 -- the messages of a line, and its count; a refused call sends nothing and counts nothing
 pub record MessagesDone (degree : ℕ) (incoming channel : List ℕ) (filling : ℕ) (before after : List ℕ) (r : MessagesAnswer) : Type 0 where
-  pub refusal : messagesRefusal r ≡ refusal (messagesTests degree incoming channel before [])
-  pub count : messagesCount r ≡ given degree (messagesTests degree incoming channel before []) (λ d. countBy (bounded d) incoming channel filling) 0
+  pub refusal : messagesNumbers r .0 ≡ refusal (messagesTests degree incoming channel before [])
+  pub count : messagesNumbers r .1 ≡ given degree (messagesTests degree incoming channel before []) (λ d. countBy (bounded d) incoming channel filling) 0
   -- "at most n + 2 a line"
-  pub most : messagesCount r ≤ 2 ^ degree + 2
+  pub most : messagesNumbers r .1 ≤ 2 ^ degree + 2
   pub cells : after ≡ given degree (messagesTests degree incoming channel before []) (λ d. messages (bounded d) incoming channel filling) before

@@ -69,8 +69,7 @@ unfoldable pub lineTests : (bound degree : ℕ) (cells : List ℕ) (more : List 
 lineTests bound degree cells more =
     (1, unnamed degree)
     ∷ (3, some (misfit (length cells) (2 ^ degree) ∷ more))
-    ∷ (4, not (atMost bound cells))
-    ∷ []
+    ∷ (4, not (atMost bound cells)) ∷ []
 
 -- a call that lends an incoming and a channel line, and n cells for the messages: "old cells of a slice that is only written
 -- are not tested"
@@ -79,5 +78,4 @@ messagesTests degree incoming channel messages more =
     (1, unnamed degree)
     ∷ (3, some (misfit (length incoming) (2 ^ degree) ∷ misfit (length channel) (2 ^ degree) ∷ misfit (length messages) (2 ^ degree) ∷ more))
     ∷ (4, not (atMost 2 incoming))
-    ∷ (4, not (atMost 2 channel))
-    ∷ []
+    ∷ (4, not (atMost 2 channel)) ∷ []

@@ -20,11 +20,11 @@ use Rattle.array.specs.declared.entry.DecodeAnswer.{DecodeAnswer}
 use Rattle.array.specs.Arrays.{line}
 use Rattle.array.specs.Plain.{plain, plainCount, closed}
 use Rattle.array.specs.Refusals.{rowTests, decodeTests}
-use Rattle.array.specs.Entries.{DecodeDone, refusalOf, rowRefusal, rowPart}
+use Rattle.array.specs.Entries.{DecodeDone, decodeNumbers, rowRefusal, rowPart}
 use Rattle.array.proofs.ArrayLaws.{length-line}
 use Rattle.array.proofs.Refusing.{row-taken, row-room}
 use Rattle.pugdrel.specs.Reports.{fits, told}
-use Rattle.pugdrel.specs.ArrayCalls.{decodeNumbers, decodeCall, askedNumbers, DecodeTold, rowCall, RowTold}
+use Rattle.pugdrel.specs.ArrayCalls.{reportNumbers, decodeCall, askedNumbers, DecodeTold, rowCall, RowTold}
 use Rattle.pugdrel.proofs.Handing.{or-true, no-array, Alike, same-refusal, same-given, taken-fits}
 
 -- ---- decode
@@ -45,7 +45,7 @@ module _ (degree l : ℕ) (r w s : List ℕ) where
   }
 
   pub decode-told : {part after old new : List ℕ} {a : DecodeAnswer} {number : ℕ} → part ≡ cond (fits 3 old) r [] → DecodeDone degree l part w s after a
-      → number ≡ refusalOf a → new ≡ told (decodeNumbers a) old → DecodeTold degree l r w s after old new number
+      → number ≡ decodeNumbers a .0 → new ≡ told (reportNumbers a) old → DecodeTold degree l r w s after old new number
   decode-told {after} {old} {a} e done n t =
       let fit = fits 3 old in
       let done′ = rw e at done in
@@ -54,7 +54,7 @@ module _ (degree l : ℕ) (r w s : List ℕ) where
       let count-is = done′ .count ∙ same-given Tests r decode-alike fit degree (λ p d. plainCount d l p p w) 0 in
       let unsure = done′ .erasures ∙ same-given Tests r decode-alike fit degree (λ p d. erasures (plain d l p p w)) 0 in
       let shut = done′ .closed ∙ same-given Tests r decode-alike fit degree (λ p d. closed d (plain d l p p w)) false in
-      let same : decodeNumbers a ≡ askedNumbers degree (decodeCall degree l r w s old) l r w = rw (count-is, unsure, shut) in
+      let same : reportNumbers a ≡ askedNumbers degree (decodeCall degree l r w s old) l r w = rw (count-is, unsure, shut) in
       record {
         refusal = number-is;
         cells = done′ .cells ∙ same-given Tests r decode-alike fit degree (λ p d. plain d l p p w) s;

@@ -14,7 +14,7 @@ use Rattle.line.specs.Bounded.{Answer, Failed, orBack, bounded}
 use Rattle.line.specs.Decoding.{messages}
 use Rattle.line.specs.Clauses.{count}
 use Rattle.line.specs.Refusals.{refusal, given, misfit, lineTests, messagesTests}
-use Rattle.line.specs.Entries.{isFound, refusalOf, foundOf, Answered, messagesRefusal, messagesCount, MessagesDone}
+use Rattle.line.specs.Entries.{isFound, lineNumbers, Answered, messagesNumbers, MessagesDone}
 use Rattle.line.proofs.Refusing.{some-none, none-applies, given-none}
 use Rattle.pugdrel.specs.Reports.{fits, told}
 use Rattle.pugdrel.specs.LineCalls.{lineCall, LineTold, MessagesTold}
@@ -49,7 +49,7 @@ module _ (bound degree : ℕ) (s : List ℕ) where
 
     pub line-told : (x : ℕ) {q old new : List ℕ} {a : LineAnswer} {number : ℕ} → x ≡ cond (fits 1 old) (length s) 0
         → Answered (refusal (lineTests bound degree (take x s) [])) (Given (take x s) []) (take x s) q a
-        → number ≡ refusalOf a → new ≡ told (bit (foundOf a) ∷ []) old
+        → number ≡ lineNumbers a .0 → new ≡ told (bit (lineNumbers a .1) ∷ []) old
         → LineTold (refusal (lineCall bound degree s old)) (given degree (lineCall bound degree s old) (asked s) Failed) s (q ++ drop x s) old new number
     line-told x {old} e done n t =
         let fit = fits 1 old in
@@ -78,7 +78,7 @@ module _ (degree : ℕ) (incoming channel : List ℕ) (filling : ℕ) (s : List 
   }
 
   pub messages-told : {part after old new : List ℕ} {a : MessagesAnswer} {number : ℕ} → part ≡ cond (fits 1 old) incoming []
-      → MessagesDone degree part channel filling s after a → number ≡ messagesRefusal a → new ≡ told (messagesCount a ∷ []) old
+      → MessagesDone degree part channel filling s after a → number ≡ messagesNumbers a .0 → new ≡ told (messagesNumbers a .1 ∷ []) old
       → MessagesTold degree incoming channel filling s after old new number
   messages-told {old} e done n t =
       let fit = fits 1 old in

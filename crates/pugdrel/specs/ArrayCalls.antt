@@ -16,14 +16,14 @@ use Rattle.array.specs.declared.entry.DecodeAnswer.{DecodeAnswer}
 use Rattle.array.specs.Encoding.{SentArray}
 use Rattle.array.specs.Plain.{plain, plainCount, closed, RowCondition}
 use Rattle.array.specs.Refusals.{rowTests, decodeTests}
-use Rattle.array.specs.Entries.{countOf, erasuresOf, closedOf}
+use Rattle.array.specs.Entries.{decodeNumbers}
 use Rattle.pugdrel.specs.Reports.{told}
 
 -- ---- decode, with l iterations, received array r, filling words w, and the cells to write s
 
 -- the numbers of an answer: the count, the unsure cells, closed
-abbrev pub decodeNumbers : DecodeAnswer → List ℕ
-decodeNumbers a = countOf a ∷ erasuresOf a ∷ bit (closedOf a) ∷ []
+abbrev pub reportNumbers : DecodeAnswer → List ℕ
+reportNumbers a = decodeNumbers a .1 ∷ decodeNumbers a .2 ∷ bit (decodeNumbers a .3) ∷ []
 
 -- the tests, with a report of 3 numbers among the lengths
 abbrev pub decodeCall : (degree l : ℕ) (r w s report : List ℕ) → List (ℕ × Bool)

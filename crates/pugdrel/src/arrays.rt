@@ -10,13 +10,13 @@ use array::rows::row;
 use array::rows::row_refusal;
 use line::refusals::number_of;
 ghost use mathlib.Core.Path.{_≡_};
-ghost use Rattle.array.specs.Entries.{Encoded, Extracted, refusalOf};
-ghost use Rattle.pugdrel.specs.ArrayCalls.{decodeNumbers, DecodeTold, RowTold};
+ghost use Rattle.array.specs.Entries.{Encoded, Extracted, decodeNumbers};
+ghost use Rattle.pugdrel.specs.ArrayCalls.{reportNumbers, DecodeTold, RowTold};
 
 // ---- an answer in document 01's numbers
 
 fn decode_refusal(answer: DecodeAnswer) -> u64
-    ensures { λ r. ⌜ r ≡ refusalOf answer ⌝ }
+    ensures { λ r. ⌜ r ≡ decodeNumbers answer .0 ⌝ }
 {
     match answer {
         DecodeAnswer::Refused(why) => number_of(why),
@@ -25,7 +25,7 @@ fn decode_refusal(answer: DecodeAnswer) -> u64
 }
 
 fn decode_numbers(answer: DecodeAnswer) -> [u64; 3]
-    ensures { λ r. ⌜ r ≡ decodeNumbers answer ⌝ }
+    ensures { λ r. ⌜ r ≡ reportNumbers answer ⌝ }
 {
     match answer {
         DecodeAnswer::Refused(_) => [0, 0, 0],

@@ -11,14 +11,14 @@ use line::refusals::number_of;
 ghost use mathlib.Core.Path.{_≡_};
 ghost use mathlib.Core.List.{[], _∷_};
 ghost use Rattle.laws.specs.Bits.{bit};
-ghost use Rattle.line.specs.Entries.{refusalOf, foundOf, messagesRefusal, messagesCount};
+ghost use Rattle.line.specs.Entries.{lineNumbers, messagesNumbers};
 ghost use Rattle.pugdrel.specs.Reports.{told};
 ghost use Rattle.pugdrel.specs.LineCalls.{BoundedTold, DecodeLineTold, MessagesTold};
 
 // ---- an answer in document 01's numbers
 
 fn line_refusal(answer: LineAnswer) -> u64
-    ensures { λ r. ⌜ r ≡ refusalOf answer ⌝ }
+    ensures { λ r. ⌜ r ≡ lineNumbers answer .0 ⌝ }
 {
     match answer {
         LineAnswer::Refused(why) => number_of(why),
@@ -28,7 +28,7 @@ fn line_refusal(answer: LineAnswer) -> u64
 }
 
 fn is_found(answer: LineAnswer) -> bool
-    ensures { λ r. ⌜ r ≡ foundOf answer ⌝ }
+    ensures { λ r. ⌜ r ≡ lineNumbers answer .1 ⌝ }
 {
     match answer {
         LineAnswer::Refused(_) => false,
@@ -38,7 +38,7 @@ fn is_found(answer: LineAnswer) -> bool
 }
 
 fn messages_refusal(answer: MessagesAnswer) -> u64
-    ensures { λ r. ⌜ r ≡ messagesRefusal answer ⌝ }
+    ensures { λ r. ⌜ r ≡ messagesNumbers answer .0 ⌝ }
 {
     match answer {
         MessagesAnswer::Refused(why) => number_of(why),
@@ -47,7 +47,7 @@ fn messages_refusal(answer: MessagesAnswer) -> u64
 }
 
 fn messages_count(answer: MessagesAnswer) -> u64
-    ensures { λ r. ⌜ r ≡ messagesCount answer ⌝ }
+    ensures { λ r. ⌜ r ≡ messagesNumbers answer .1 ⌝ }
 {
     match answer {
         MessagesAnswer::Refused(_) => 0,
@@ -59,7 +59,7 @@ fn messages_count(answer: MessagesAnswer) -> u64
 
 // Reports found, and returns the refusal number.
 fn tell_found(answer: LineAnswer, report: &mut [u64]) -> u64
-    ensures { λ r. ⌜ (r ≡ refusalOf answer) × (now (report .exit) ≡ told (bit (foundOf answer) ∷ []) (now (report .entry))) ⌝ }
+    ensures { λ r. ⌜ (r ≡ lineNumbers answer .0) × (now (report .exit) ≡ told (bit (lineNumbers answer .1) ∷ []) (now (report .entry))) ⌝ }
 {
     let numbers = [bit_of(is_found(answer))];
     tell(&numbers, report);

@@ -24,7 +24,7 @@ use Rattle.array.specs.declared.report.Report.{Report}
 use Rattle.array.specs.declared.entry.DecodeAnswer.{DecodeAnswer}
 use Rattle.array.specs.declared.entry.DecodeAnswer.the-variants as answer
 use Rattle.array.specs.Refusals.{decodeTests}
-use Rattle.array.specs.Entries.{DecodeDone, refusalOf, countOf, erasuresOf, closedOf}
+use Rattle.array.specs.Entries.{DecodeDone, decodeNumbers}
 use Rattle.line.specs.Refusals.{number, refusal, atMost}
 use Rattle.line.specs.working.Calls.{Tested}
 use Rattle.line.proofs.Refusing.{some-number, bits-named, known-size, none-applies, given-taken, given-refused, tested-known}
@@ -99,14 +99,14 @@ module _ (d : Degree) (degree : ℕ) (r w before : List ℕ) (e : degree ≡ bit
     pub decoded-answer : (t : Report) → o ≡ answer.Decoded t → DecodingDone d 1 r (zeros d) after t
     decoded-answer t h = record {
       cells = done .cells ∙ given-taken Tests degree (λ d. plain d 1 r r w) before taken-call ∙ ap (plain d 1 r r) z;
-      count = sym (ap countOf h) ∙ done .count ∙ given-taken Tests degree (λ d. plainCount d 1 r r w) 0 taken-call ∙ ap (plainCount d 1 r r) z;
-      erasures = sym (ap erasuresOf h) ∙ done .erasures ∙ given-taken Tests degree (λ d. erasures (plain d 1 r r w)) 0 taken-call ∙ ap (λ (x : List ℕ). erasures (plain d 1 r r x)) z;
-      closed = sym (ap closedOf h) ∙ done .closed ∙ given-taken Tests degree (λ d. closed d (plain d 1 r r w)) false taken-call ∙ ap (λ (x : List ℕ). closed d (plain d 1 r r x)) z;
+      count = sym (ap (λ (a : DecodeAnswer). decodeNumbers a .1) h) ∙ done .count ∙ given-taken Tests degree (λ d. plainCount d 1 r r w) 0 taken-call ∙ ap (plainCount d 1 r r) z;
+      erasures = sym (ap (λ (a : DecodeAnswer). decodeNumbers a .2) h) ∙ done .erasures ∙ given-taken Tests degree (λ d. erasures (plain d 1 r r w)) 0 taken-call ∙ ap (λ (x : List ℕ). erasures (plain d 1 r r x)) z;
+      closed = sym (ap (λ (a : DecodeAnswer). decodeNumbers a .3) h) ∙ done .closed ∙ given-taken Tests degree (λ d. closed d (plain d 1 r r w)) false taken-call ∙ ap (λ (x : List ℕ). closed d (plain d 1 r r x)) z;
     }
 
     -- no answer is a refusal
     pub never-refused : (why : Refusal) → o ≡ answer.Refused why → ⊥
-    never-refused why h = some-number why (sym (ap refusalOf h) ∙ done .refusal ∙ taken-call .0)
+    never-refused why h = some-number why (sym (ap (λ (a : DecodeAnswer). decodeNumbers a .0) h) ∙ done .refusal ∙ taken-call .0)
 
 -- ---- what is printed for a decoding
 

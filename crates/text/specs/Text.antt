@@ -51,8 +51,7 @@ unfoldable pub sheetTests : (input : List ℕ) → List (ℕ × Bool)
 sheetTests input =
     (1, unnamed (firstLine input))
     ∷ (3, not (shaped (2 ^ firstLine input) (afterFirst input)))
-    ∷ (4, not (known (afterFirst input)))
-    ∷ []
+    ∷ (4, not (known (afterFirst input))) ∷ []
 
 -- the cell that a character stands for: ? is 2, unsure
 abbrev pub cellOf : ℕ → ℕ

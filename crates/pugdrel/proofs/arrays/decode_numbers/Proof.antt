@@ -3,7 +3,7 @@
 use mathlib.Core.Path.{sym, ap, _∙_}
 use mathlib.Core.List.{[], _∷_}
 use Prim.Native.Nat.{ℕ}
-use Rattle.pugdrel.specs.ArrayCalls.{decodeNumbers}
+use Rattle.pugdrel.specs.ArrayCalls.{reportNumbers}
 use borrow.Author.Needs.{needs}
 use Rattle.pugdrel.proofs.arrays.decode_numbers.Statement.{statement}
 use Rattle.pugdrel.proofs.arrays.decode_numbers.Tie as tie
@@ -18,12 +18,12 @@ bit-of-requires : tie.Need-bit-of-requires
 bit-of-requires c κs = search needs
 
 returns : tie.Need-returns
-returns c = sym (ap decodeNumbers (c .enum-told .given .1))
+returns c = sym (ap reportNumbers (c .enum-told .given .1))
 
 returns-2 : tie.Need-returns-2
 returns-2 c =
     let g = c .before .before .answer .given in
-    ap (λ (b : ℕ). g .0 .0 .count ∷ g .0 .0 .erasures ∷ b ∷ []) (c .bit-of .ensures) ∙ sym (ap decodeNumbers (g .1))
+    ap (λ (b : ℕ). g .0 .0 .count ∷ g .0 .0 .erasures ∷ b ∷ []) (c .bit-of .ensures) ∙ sym (ap reportNumbers (g .1))
 
 pub decode-numbers-spec : {M : Type 1} → statement M
 decode-numbers-spec =
