@@ -27,7 +27,7 @@ module _ (degree l : ℕ) (r w s : List ℕ) where
   Tests = decodeTests degree l r w s []
 
   pub done-taken : {d₀ : Degree} {after : List ℕ} {t : Report} → (refusal Tests ≡ 0) × (named degree ≡ Known d₀) → DecodingDone d₀ l r w after t
-      → DecodeDone degree l r w s after (answer.Decoded t)
+      → DecodeDone degree l r w s [] after (answer.Decoded t)
   done-taken {d₀} {after} {t} h k =
       let whole = decode-takes degree l r w s d₀ h .0 in
       record {
@@ -44,7 +44,7 @@ module _ (degree l : ℕ) (r w s : List ℕ) where
             (same .cells ∙ m .cells, same .closed ∙ m .closing);
       }
 
-  pub done-refused : (why : Refusal) → number why ≡ refusal Tests → DecodeDone degree l r w s s (answer.Refused why)
+  pub done-refused : (why : Refusal) → number why ≡ refusal Tests → DecodeDone degree l r w s [] s (answer.Refused why)
   done-refused why h =
       record {
         refusal = h;

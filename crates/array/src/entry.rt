@@ -5,6 +5,7 @@ use crate::report::Report;
 use line::refusals::Call;
 use line::refusals::Refusal;
 use line::tables::line_tables;
+ghost use mathlib.Core.List.{[]};
 ghost use Rattle.array.specs.Entries.{DecodeDone};
 
 pub enum DecodeAnswer {
@@ -20,7 +21,7 @@ pub fn decode(
     filling: &[u64],
     cells: &mut [u8],
 ) -> DecodeAnswer
-    ensures { λ r. ⌜ DecodeDone degree iterations (now (received .entry)) (now (filling .entry)) (now (cells .entry)) (now (cells .exit)) r ⌝ }
+    ensures { λ r. ⌜ DecodeDone degree iterations (now (received .entry)) (now (filling .entry)) (now (cells .entry)) [] (now (cells .exit)) r ⌝ }
 {
     let call = decode_test(degree, iterations, received, filling, cells);
     match call {

@@ -2,7 +2,7 @@
 -- refused calls alike.
 use mathlib.Core.Path.{_≡_}
 use mathlib.Core.Bool.{Bool, true, false}
-use mathlib.Core.List.{List, []}
+use mathlib.Core.List.{List}
 use Prim.Native.Nat.{ℕ, _+_, _^_, _≤_}
 use Rattle.line.specs.declared.entry.LineAnswer.{LineAnswer}
 use Rattle.line.specs.declared.entry.LineAnswer.the-variants as line
@@ -30,7 +30,7 @@ abbrev pub messagesNumbers : MessagesAnswer → ℕ × ℕ
 messagesNumbers (out.Refused why) = (number why, 0)
 messagesNumbers (out.Written n) = (0, n)
 
--- ---- the promises
+-- ---- the promises. `more` says of further lent slices whether their length is wrong; the entries here have none.
 
 -- an answer to a line or word, and its cells: "a failed word is given back as it came", and so is a refused one
 pub record Answered (no : ℕ) (a : Answer) (before after : List ℕ) (r : LineAnswer) : Type 0 where
@@ -40,21 +40,21 @@ pub record Answered (no : ℕ) (a : Answer) (before after : List ℕ) (r : LineA
 
 -- bounded-distance decoding of a word, whose cells are 0 or 1: "the one codeword within 2 of a full word. It fails exactly if
 -- no codeword lies within 2." A refused call finds nothing.
-abbrev pub BoundedDone : (degree : ℕ) (before after : List ℕ) → LineAnswer → Type 0
-BoundedDone degree before after =
-    let tests = lineTests 1 degree before [] in
+abbrev pub BoundedDone : (degree : ℕ) (before : List ℕ) (more : List Bool) (after : List ℕ) → LineAnswer → Type 0
+BoundedDone degree before more after =
+    let tests = lineTests 1 degree before more in
     Answered (refusal tests) (given degree tests (λ d. bounded d before) Failed) before after
 
 -- decoding of a line, whose cells are 0, 1 or 2: "with 6 or more unsure cells it fails. Otherwise both words are decoded."
-abbrev pub DecodeLineDone : (degree filling : ℕ) (before after : List ℕ) → LineAnswer → Type 0
-DecodeLineDone degree filling before after =
-    let tests = lineTests 2 degree before [] in
+abbrev pub DecodeLineDone : (degree filling : ℕ) (before : List ℕ) (more : List Bool) (after : List ℕ) → LineAnswer → Type 0
+DecodeLineDone degree filling before more after =
+    let tests = lineTests 2 degree before more in
     Answered (refusal tests) (given degree tests (λ d. decode (bounded d) before filling) Failed) before after
 
 -- the messages of a line, and its count; a refused call sends nothing and counts nothing
-pub record MessagesDone (degree : ℕ) (incoming channel : List ℕ) (filling : ℕ) (before after : List ℕ) (r : MessagesAnswer) : Type 0 where
-  pub refusal : messagesNumbers r .0 ≡ refusal (messagesTests degree incoming channel before [])
-  pub count : messagesNumbers r .1 ≡ given degree (messagesTests degree incoming channel before []) (λ d. countBy (bounded d) incoming channel filling) 0
+pub record MessagesDone (degree : ℕ) (incoming channel : List ℕ) (filling : ℕ) (before : List ℕ) (more : List Bool) (after : List ℕ) (r : MessagesAnswer) : Type 0 where
+  pub refusal : messagesNumbers r .0 ≡ refusal (messagesTests degree incoming channel before more)
+  pub count : messagesNumbers r .1 ≡ given degree (messagesTests degree incoming channel before more) (λ d. countBy (bounded d) incoming channel filling) 0
   -- "at most n + 2 a line"
   pub most : messagesNumbers r .1 ≤ 2 ^ degree + 2
-  pub cells : after ≡ given degree (messagesTests degree incoming channel before []) (λ d. messages (bounded d) incoming channel filling) before
+  pub cells : after ≡ given degree (messagesTests degree incoming channel before more) (λ d. messages (bounded d) incoming channel filling) before

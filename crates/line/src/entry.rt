@@ -18,6 +18,7 @@ use crate::tables::line_tables;
 use crate::word::of_number;
 use degree::Degree;
 ghost use mathlib.Core.Path.{_≡_};
+ghost use mathlib.Core.List.{[]};
 ghost use Prim.Native.Nat.{ℕ, _%_};
 ghost use lib.ListN.{length};
 ghost use Rattle.degree.specs.Degree.{size};
@@ -92,7 +93,7 @@ fn send_taken(d: Degree, incoming: &[u8], channel: &[u8], filling: u64, messages
 
 // Bounded-distance decoding of a full word, in place.
 pub fn bounded_distance(degree: u64, word: &mut [u8]) -> LineAnswer
-    ensures { λ r. ⌜ BoundedDone degree (now (word .entry)) (now (word .exit)) r ⌝ }
+    ensures { λ r. ⌜ BoundedDone degree (now (word .entry)) [] (now (word .exit)) r ⌝ }
 {
     let call = line_test(degree, word, 1);
     match call {
@@ -103,7 +104,7 @@ pub fn bounded_distance(degree: u64, word: &mut [u8]) -> LineAnswer
 
 // Line decoding, in place.
 pub fn decode_line(degree: u64, cells: &mut [u8], filling: u64) -> LineAnswer
-    ensures { λ r. ⌜ DecodeLineDone degree filling (now (cells .entry)) (now (cells .exit)) r ⌝ }
+    ensures { λ r. ⌜ DecodeLineDone degree filling (now (cells .entry)) [] (now (cells .exit)) r ⌝ }
 {
     let call = line_test(degree, cells, 2);
     match call {
@@ -120,7 +121,7 @@ pub fn line_messages(
     filling: u64,
     messages: &mut [u8],
 ) -> MessagesAnswer
-    ensures { λ r. ⌜ MessagesDone degree (now (incoming .entry)) (now (channel .entry)) filling (now (messages .entry)) (now (messages .exit)) r ⌝ }
+    ensures { λ r. ⌜ MessagesDone degree (now (incoming .entry)) (now (channel .entry)) filling (now (messages .entry)) [] (now (messages .exit)) r ⌝ }
 {
     let call = messages_test(degree, incoming, channel, messages);
     match call {

@@ -24,7 +24,7 @@ use Rattle.array.specs.Entries.{DecodeDone, decodeNumbers, rowRefusal, rowPart}
 use Rattle.array.proofs.ArrayLaws.{length-line}
 use Rattle.array.proofs.Refusing.{row-taken, row-room}
 use Rattle.pugdrel.specs.Reports.{fits, told}
-use Rattle.pugdrel.specs.ArrayCalls.{reportNumbers, decodeCall, askedNumbers, DecodeTold, rowCall, RowTold}
+use Rattle.pugdrel.specs.ArrayCalls.{reportNumbers, DecodeTold, rowCall, RowTold}
 use Rattle.pugdrel.proofs.Handing.{or-true, no-array, Alike, same-refusal, same-given, taken-fits}
 
 -- ---- decode
@@ -44,26 +44,27 @@ module _ (degree l : ℕ) (r w s : List ℕ) where
         true≢false (some-none (misfit (length r) (k * k) ∷ misfit (length w) (2 * l * k) ∷ misfit (length s) (k * k) ∷ true ∷ []) (n .1 .1 .0) .1 .1 .1 .0);
   }
 
-  pub decode-told : {part after old new : List ℕ} {a : DecodeAnswer} {number : ℕ} → part ≡ cond (fits 3 old) r [] → DecodeDone degree l part w s after a
+  pub decode-told : {part after old new : List ℕ} {a : DecodeAnswer} {number : ℕ} → part ≡ cond (fits 3 old) r [] → DecodeDone degree l part w s [] after a
       → number ≡ decodeNumbers a .0 → new ≡ told (reportNumbers a) old → DecodeTold degree l r w s after old new number
   decode-told {after} {old} {a} e done n t =
       let fit = fits 3 old in
       let done′ = rw e at done in
-      let p = cond fit r [] in
-      let number-is = n ∙ done′ .refusal ∙ same-refusal Tests r decode-alike fit in
-      let count-is = done′ .count ∙ same-given Tests r decode-alike fit degree (λ p d. plainCount d l p p w) 0 in
-      let unsure = done′ .erasures ∙ same-given Tests r decode-alike fit degree (λ p d. erasures (plain d l p p w)) 0 in
-      let shut = done′ .closed ∙ same-given Tests r decode-alike fit degree (λ p d. closed d (plain d l p p w)) false in
-      let same : reportNumbers a ≡ askedNumbers degree (decodeCall degree l r w s old) l r w = rw (count-is, unsure, shut) in
+      let number-is = done′ .refusal ∙ same-refusal Tests r decode-alike fit in
       record {
-        refusal = number-is;
-        cells = done′ .cells ∙ same-given Tests r decode-alike fit degree (λ p d. plain d l p p w) s;
-        report = t ∙ ap (λ (x : List ℕ). told x old) same;
-        sent = λ d s′ z k S near.
-            let report-fits = taken-fits Tests r decode-alike fit (sym number-is ∙ z) in
-            let whole : DecodeDone degree l r w s after a = rw report-fits at done′ in
-            let h = whole .sent d s′ (sym n ∙ z) k S near in
-            (h .0, ap (λ (x : List ℕ). getD x 2 0) t ∙ rw (report-fits, h .1));
+        answer = a;
+        done = record {
+          refusal = number-is;
+          count = done′ .count ∙ same-given Tests r decode-alike fit degree (λ p d. plainCount d l p p w) 0;
+          most = done′ .most;
+          erasures = done′ .erasures ∙ same-given Tests r decode-alike fit degree (λ p d. erasures (plain d l p p w)) 0;
+          closed = done′ .closed ∙ same-given Tests r decode-alike fit degree (λ p d. closed d (plain d l p p w)) false;
+          cells = done′ .cells ∙ same-given Tests r decode-alike fit degree (λ p d. plain d l p p w) s;
+          sent = λ d s′ z k S near.
+              let whole : DecodeDone degree l r w s [] after a = rw (taken-fits Tests r decode-alike fit (sym number-is ∙ z)) at done′ in
+              whole .sent d s′ z k S near;
+        };
+        refusal = n;
+        report = t;
       }
 
 -- ---- the look-up of a row

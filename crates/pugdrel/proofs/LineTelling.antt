@@ -17,7 +17,7 @@ use Rattle.line.specs.Refusals.{refusal, given, misfit, lineTests, messagesTest
 use Rattle.line.specs.Entries.{isFound, lineNumbers, Answered, messagesNumbers, MessagesDone}
 use Rattle.line.proofs.Refusing.{some-none, none-applies, given-none}
 use Rattle.pugdrel.specs.Reports.{fits, told}
-use Rattle.pugdrel.specs.LineCalls.{lineCall, LineTold, MessagesTold}
+use Rattle.pugdrel.specs.LineCalls.{LineTold, MessagesTold}
 use Rattle.pugdrel.proofs.Handing.{or-true, no-line, Alike, same-refusal, same-given, lent-part}
 
 -- ---- a word or a line, decoded in place: the part that is handed on, and the cells after it
@@ -50,14 +50,19 @@ module _ (bound degree : ℕ) (s : List ℕ) where
     pub line-told : (x : ℕ) {q old new : List ℕ} {a : LineAnswer} {number : ℕ} → x ≡ cond (fits 1 old) (length s) 0
         → Answered (refusal (lineTests bound degree (take x s) [])) (Given (take x s) []) (take x s) q a
         → number ≡ lineNumbers a .0 → new ≡ told (bit (lineNumbers a .1) ∷ []) old
-        → LineTold (refusal (lineCall bound degree s old)) (given degree (lineCall bound degree s old) (asked s) Failed) s (q ++ drop x s) old new number
-    line-told x {old} e done n t =
+        → LineTold (λ more. Answered (refusal (lineTests bound degree s more)) (Given s more) s (q ++ drop x s)) old new number
+    line-told x {old} {a} e done n t =
         let fit = fits 1 old in
         let done′ = rw (lent-part fit s e) at done in
         record {
-          refusal = n ∙ done′ .refusal ∙ same-refusal (lineTests bound degree) s line-alike fit;
-          cells = whole fit x e (done′ .cells);
-          report = t ∙ ap (λ (b : Bool). told (bit b ∷ []) old) (done′ .found ∙ ap isFound (same-given (lineTests bound degree) s line-alike fit degree asked Failed));
+          answer = a;
+          done = record {
+            refusal = done′ .refusal ∙ same-refusal (lineTests bound degree) s line-alike fit;
+            found = done′ .found ∙ ap isFound (same-given (lineTests bound degree) s line-alike fit degree asked Failed);
+            cells = whole fit x e (done′ .cells);
+          };
+          refusal = n;
+          report = t;
         }
 
 -- ---- the messages of a line
@@ -78,13 +83,19 @@ module _ (degree : ℕ) (incoming channel : List ℕ) (filling : ℕ) (s : List 
   }
 
   pub messages-told : {part after old new : List ℕ} {a : MessagesAnswer} {number : ℕ} → part ≡ cond (fits 1 old) incoming []
-      → MessagesDone degree part channel filling s after a → number ≡ messagesNumbers a .0 → new ≡ told (messagesNumbers a .1 ∷ []) old
+      → MessagesDone degree part channel filling s [] after a → number ≡ messagesNumbers a .0 → new ≡ told (messagesNumbers a .1 ∷ []) old
       → MessagesTold degree incoming channel filling s after old new number
-  messages-told {old} e done n t =
+  messages-told {old} {a} e done n t =
       let fit = fits 1 old in
       let done′ = rw e at done in
       record {
-        refusal = n ∙ done′ .refusal ∙ same-refusal Tests incoming messages-alike fit;
-        cells = done′ .cells ∙ same-given Tests incoming messages-alike fit degree (λ p d. messages (bounded d) p channel filling) s;
-        report = t ∙ ap (λ (x : ℕ). told (x ∷ []) old) (done′ .count ∙ same-given Tests incoming messages-alike fit degree (λ p d. count (bounded d) p channel filling) 0);
+        answer = a;
+        done = record {
+          refusal = done′ .refusal ∙ same-refusal Tests incoming messages-alike fit;
+          count = done′ .count ∙ same-given Tests incoming messages-alike fit degree (λ p d. count (bounded d) p channel filling) 0;
+          most = done′ .most;
+          cells = done′ .cells ∙ same-given Tests incoming messages-alike fit degree (λ p d. messages (bounded d) p channel filling) s;
+        };
+        refusal = n;
+        report = t;
       }

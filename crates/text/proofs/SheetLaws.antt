@@ -94,7 +94,7 @@ module _ (d : Degree) (degree : ℕ) (r w before : List ℕ) (e : degree ≡ bit
         ap named e ∙ bits-named d,
       )
 
-  module _ (after : List ℕ) (o : DecodeAnswer) (done : DecodeDone degree 1 r w before after o) where
+  module _ (after : List ℕ) (o : DecodeAnswer) (done : DecodeDone degree 1 r w before [] after o) where
     -- what an answer says
     pub decoded-answer : (t : Report) → o ≡ answer.Decoded t → DecodingDone d 1 r (zeros d) after t
     decoded-answer t h = record {
