@@ -29,7 +29,7 @@ use Rattle.array.specs.Plain.{plain, plainCount, closed, RowCondition}
 use Rattle.array.specs.Encoding.{ProductCodeword}
 use Rattle.array.proofs.ArrayLaws.{Even, each-cell, line-at, line-cells, transpose-cells, length-transpose, transpose-transpose, length-lines, line-lines, lines-are}
 
-every-true : (f : ℕ → Bool) (n : ℕ) → ((j : ℕ) → j < n → f j ≡ true) → every f n ≡ true
+pub every-true : (f : ℕ → Bool) (n : ℕ) → ((j : ℕ) → j < n → f j ≡ true) → every f n ≡ true
 every-true f zero h = refl
 every-true f (suc n) h = ap₂ _&&_ (h n (le-refl (suc n))) (every-true f n (λ j q. h j (omega arith)))
 

@@ -3,3 +3,5 @@ mod Decimals
 mod Testing
 mod SheetLaws
 mod Examples
+pub mod ReadBack
+pub mod PrintedExamples
