@@ -12,3 +12,5 @@ mod EncodeLaws
 mod DecodeLaws
 pub mod Theorem
 pub mod SentArrays
+pub mod ClosedLaws
+pub mod FillingOrder

@@ -96,7 +96,7 @@ testing-end {d} {rows} {all} {i} c e h m a k =
 -- ---- the state of an array
 
 -- a list with no erasure is a word
-no-erasures : (m : List ℕ) → ((i : ℕ) → cell m i < 3) → erasures m ≡ 0 → (i : ℕ) → cell m i < 2
+pub no-erasures : (m : List ℕ) → ((i : ℕ) → cell m i < 3) → erasures m ≡ 0 → (i : ℕ) → cell m i < 2
 unfolding erasures
 no-erasures [] h e i = omega arith
 no-erasures (c ∷ cs) h e zero = pick (erased-or-known c)

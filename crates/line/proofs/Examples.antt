@@ -1,9 +1,9 @@
 -- The small lines of document 01, degree 4, as one table: P1 to P9 are decoded, P10 to P14 give messages and counts.
 -- Assumes nothing.
-use mathlib.Core.Path.{_≡_, refl, sym, _∙_}
+use mathlib.Core.Path.{_≡_, refl, sym, ap, _∙_}
 use mathlib.Core.Bool.{Bool, true, false, cond}
 use mathlib.Core.List.{List, [], _∷_, map}
-use Prim.Native.Nat.{ℕ, _+_, _^_}
+use Prim.Native.Nat.{ℕ, zero, suc, _+_, _^_}
 use lib.Dec.{eqb}
 use lib.ListN.{length, replicate, set}
 use borrow.Author.Tests.{eqb-true}
@@ -12,7 +12,7 @@ use Rattle.field.specs.Field.{double, timesPower}
 use Rattle.laws.specs.Digits.{sumOver, ones}
 use Rattle.line.specs.Cells.{cell, erasures, distance, filled, flip}
 use Rattle.line.specs.Codeword.{isCodeword}
-use Rattle.line.specs.Bounded.{Answer, Found, Failed, firstOf, itself, oneFlipped, twoFlipped, within2, bounded}
+use Rattle.line.specs.Bounded.{Answer, Found, Failed, orBack, firstOf, itself, oneFlipped, twoFlipped, within2, bounded}
 use Rattle.line.specs.Decoding.{listTo, decode, decoded, message, messages}
 use Rattle.laws.specs.Sums.{sumTo}
 use Rattle.line.specs.Clauses.{reach, same, agrees, byReach, clause, count}
@@ -27,10 +27,10 @@ put x (i ∷ is) l = set (put x is l) i x
 abbrev line : (ones erased : List ℕ) → List ℕ
 line os es = put 1 os (put 2 es (replicate 16 0))
 
-abbrev zeros : List ℕ
+abbrev pub zeros : List ℕ
 zeros = line [] []
 
-abbrev G : List ℕ
+abbrev pub G : List ℕ
 G = line (0 ∷ 4 ∷ 6 ∷ 7 ∷ 8 ∷ 15 ∷ []) []
 
 pub data Row : Type 0 where
@@ -45,7 +45,7 @@ P3 = line (0 ∷ 4 ∷ 6 ∷ []) []
 abbrev P4 : List ℕ
 P4 = line [] (0 ∷ 4 ∷ 6 ∷ 7 ∷ 8 ∷ [])
 
-abbrev P7 : List ℕ
+abbrev pub P7 : List ℕ
 P7 = line (0 ∷ 4 ∷ []) (6 ∷ 7 ∷ [])
 
 abbrev P14 : List ℕ
@@ -115,3 +115,24 @@ rows-quick = refl
 -- every row is as the definitions give it
 pub table : map computed rows ≡ rows
 table = computed-quick rows ∙ rows-quick
+
+-- ---- the messages of P7 and P8, where the channel has the incoming line
+
+-- the messages are then what the line is decoded to
+messages-same : (dec : List ℕ → Answer) (y : List ℕ) (f : ℕ) (c : List ℕ) → decode dec y f ≡ Found c → length c ≡ length y → messages dec y y f ≡ c
+unfolding messages
+messages-same dec y f c e l =
+    listTo-is (message dec y y f) (length y) c l (λ k h. equal-message dec y y f k refl ∙ ap (λ (a : Answer). cell (orBack y a) k) e)
+
+-- what row i of the table is decoded to
+abbrev answer : ℕ → List Row → Answer
+answer i [] = Failed
+answer zero (Decodes y f a ∷ rs) = a
+answer zero (Sends y k x m c ∷ rs) = Failed
+answer (suc i) (r ∷ rs) = answer i rs
+
+pub P7-messages : messages (bounded Four) P7 P7 0 ≡ zeros
+P7-messages = messages-same (bounded Four) P7 0 zeros (ap (answer 6) table) refl
+
+pub P8-messages : messages (bounded Four) P7 P7 (2 ^ 6 + 2 ^ 7) ≡ G
+P8-messages = messages-same (bounded Four) P7 (2 ^ 6 + 2 ^ 7) G (ap (answer 7) table) refl

@@ -1,0 +1,74 @@
+-- Closed says no less and no more than document 01: no cell is unsure, and every column is a codeword.
+-- Assumes nothing.
+use mathlib.Core.Path.{_≡_, refl, sym, ap, ap₂, _∙_, subst}
+use mathlib.Core.Bool.{Bool, true, false, _&&_, true≢false}
+use mathlib.Core.Logic.{_↔_}
+use mathlib.Core.List.{List, [], _∷_}
+use Prim.Native.Nat.{ℕ, zero, suc, _<_}
+use native.Mathlib.Omega.{arith}
+use borrow.Author.Tests.{eq-eqb, eqb-true}
+use lib.Dec.{T, eqb}
+use Rattle.laws.specs.Tests.{every}
+use Rattle.laws.proofs.Tests.{and-true, every-at}
+use Rattle.degree.specs.declared.Degree.{Degree}
+use Rattle.degree.specs.Degree.{size}
+use Rattle.line.specs.Cells.{cell, bit, isErased, erasures}
+use Rattle.line.specs.Codeword.{Codeword, isCodeword}
+use Rattle.line.proofs.Distances.{is-codeword}
+use Rattle.array.specs.Arrays.{column}
+use Rattle.array.specs.Plain.{closed}
+use Rattle.array.specs.working.Steps.{IsArray}
+use Rattle.array.specs.working.Runs.{IsFull}
+use Rattle.array.proofs.ArrayLaws.{line-cells, transpose-cells}
+use Rattle.array.proofs.ReportLaws.{no-erasures}
+use Rattle.array.proofs.Theorem.{every-true}
+
+-- a test that is passed, and one that cannot be
+passed : (b : Bool) → T b → b ≡ true
+passed true t = refl
+passed false t = absurd t
+
+not-passed : (b : Bool) → (b ≡ true → ⊥) → b ≡ false
+not-passed true h = absurd (h refl)
+not-passed false h = refl
+
+-- an unsure cell is counted
+unsure-counted : (m : List ℕ) (i : ℕ) → cell m i ≡ 2 → erasures m ≡ 0 → ⊥
+unfolding erasures
+unsure-counted [] i e z = omega arith
+unsure-counted (c ∷ cs) zero e z = omega (arith, ap (λ (x : ℕ). bit (isErased x)) e)
+unsure-counted (c ∷ cs) (suc i) e z = unsure-counted cs i e (omega arith)
+
+module _ (d : Degree) (m : List ℕ) where
+  abbrev columnTest : ℕ → Bool
+  columnTest j = isCodeword d (column (size d) m j)
+
+  -- what a closed array has passed
+  closed-tests : closed d m ≡ true → (erasures m ≡ 0) × ((j : ℕ) → j < size d → isCodeword d (column (size d) m j) ≡ true)
+  unfolding closed
+  closed-tests e =
+      let p = and-true (eqb (erasures m) 0) (every columnTest (size d)) e in
+      (eqb-true (erasures m) 0 (p .0), λ j h. passed (columnTest j) (every-at columnTest (size d) (subst T (sym (p .1)) tt) h))
+
+  -- a column that is no codeword leaves the array open
+  pub bad-column : (j : ℕ) → j < size d → isCodeword d (column (size d) m j) ≡ false → closed d m ≡ false
+  bad-column j h e = not-passed (closed d m) (λ c. true≢false (sym (closed-tests c .1 j h) ∙ e))
+
+  -- and so does an unsure cell
+  pub unsure-cell : (i : ℕ) → cell m i ≡ 2 → closed d m ≡ false
+  unsure-cell i e = not-passed (closed d m) (λ c. unsure-counted m i e (closed-tests c .0))
+
+  -- closed: no cell unsure and every column a codeword
+  pub closed-exactly : IsArray d m → (closed d m ≡ true) ↔ ((erasures m ≡ 0) × ((j : ℕ) → j < size d → Codeword d (column (size d) m j)))
+  unfolding closed
+  closed-exactly a = (to, from)
+    where
+      to : closed d m ≡ true → (erasures m ≡ 0) × ((j : ℕ) → j < size d → Codeword d (column (size d) m j))
+      to e =
+          let t = closed-tests e in
+          let full : IsFull d m = record { long = a .long; small = no-erasures m (a .small) (t .0) } in
+          (t .0, λ j h. is-codeword d (line-cells (size d) (size d) j (transpose-cells (size d) (size d) full) h) .0 (t .1 j h))
+
+      from : (erasures m ≡ 0) × ((j : ℕ) → j < size d → Codeword d (column (size d) m j)) → closed d m ≡ true
+      from p =
+          ap₂ _&&_ (eq-eqb (erasures m) 0 (p .0)) (every-true columnTest (size d) (λ j h. is-codeword d (p .1 j h .word) .1 (p .1 j h)))
