@@ -88,24 +88,17 @@ fn write_rows(n: usize, k: usize, units: &UnitTable, words: &[u64], cells: &mut 
     }
 }
 
-// The array of a message, by the table of units of the degree; `words` is room for the encoded message rows.
-fn encode_by(d: Degree, units: &UnitTable, message: &[u8], words: &mut [u64], cells: &mut [u8])
-    requires { ⌜ Units d (now units) × IsWord (messageSize d * messageSize d) (now message) × (length (now words) ≡ 64) × (length (now cells) ≡ size d * size d) ⌝ }
-    ensures { λ _. ⌜ now (cells .exit) ≡ encodeArray d (now (message .entry)) ⌝ }
-{
-    encode_rows(d, units, message, words);
-    let n = size_of(d);
-    let k = Line::message_cells(d);
-    write_rows(n, k, units, words, cells);
-}
-
+// The array of a message: its rows are encoded, and the rows of the array are sums of them, both by the table of units.
 fn encode_array(d: Degree, message: &[u8], cells: &mut [u8])
     requires { ⌜ IsWord (messageSize d * messageSize d) (now message) × (length (now cells) ≡ size d * size d) ⌝ }
     ensures { λ _. ⌜ now (cells .exit) ≡ encodeArray d (now (message .entry)) ⌝ }
 {
     let units = unit_table(d);
     let mut words = [0u64; 64];
-    encode_by(d, &units, message, &mut words, cells);
+    encode_rows(d, &units, message, &mut words);
+    let n = size_of(d);
+    let k = Line::message_cells(d);
+    write_rows(n, k, &units, &words, cells);
 }
 
 // Entry: encodes the message of k by k bits into the n by n cells, and returns the refusal number, 0 for none.
