@@ -5,6 +5,7 @@
 use mathlib.Core.Path.{_≡_, sym, ap, _∙_, subst}
 use mathlib.Core.List.{List}
 use Prim.Native.Nat.{ℕ, _+_, _*_, _<_}
+use native.Mathlib.Nat.{mul-right-comm}
 use native.Mathlib.Omega.{arith}
 use lib.ListN.{length, getD}
 use lib.Seq.{ext-getD}
@@ -137,9 +138,6 @@ module _ (d : Degree) where
     encode-holds =
         lines-are k _ k m (M .long) (λ i h. ap (messageOf d) (encode-row i h) ∙ line-holds d (line k m i) (length-line k k m i h (M .long)))
 
-  swapped : (x y z : ℕ) → x * y * z ≡ x * z * y
-  swapped x y z = omega arith
-
   -- the columns of the array are the rows of the array of the columns
   either-way : (m : List ℕ) → IsWord (k * k) m → transpose n n (encodeArray d (transpose k k m)) ≡ encodeArray d m
   either-way m M =
@@ -151,7 +149,7 @@ module _ (d : Degree) where
       ∙ to-swap k k (λ a c. getD t (a * k + c) 0 * summed d i h .weight c * summed d j q .weight a)
       ∙ to-cong k _ _ (λ a z. to-cong k _ _ (λ c y.
       ap (λ (x : ℕ). x * summed d i h .weight a * summed d j q .weight c) (transpose-at k k m c a y z)
-      ∙ swapped (getD m (a * k + c) 0) (summed d i h .weight a) (summed d j q .weight c)))
+      ∙ mul-right-comm (getD m (a * k + c) 0) (summed d i h .weight a) (summed d j q .weight c)))
       ∙ sym (cell-sum m M i j h q))
 
   -- columns first gives the same array

@@ -4,7 +4,7 @@
 use mathlib.Core.Path.{_≡_, sym, ap, ap₂, _∙_}
 use mathlib.Core.List.{List}
 use Prim.Native.Nat.{ℕ, _+_, _*_, _^_, _<_}
-use native.Mathlib.Nat.{mul-comm}
+use native.Mathlib.Nat.{mul-comm, mul-right-comm}
 use native.Mathlib.Omega.{arith}
 use lib.ListN.{getD}
 use Rattle.laws.specs.working.Bits.{bitAt}
@@ -49,9 +49,6 @@ module _ (d : Degree) (t : List ℕ) (U : Units d t) (m : List ℕ) (M : IsWord 
       ∙ to-cong (size d) _ _ (λ j q. ap (λ (x : ℕ). x * 2 ^ j)
       (bit-one (c .word .small j) ∙ ap (λ (w : List ℕ). getD w j 0) (sym e) ∙ line-at (size d) (encodeLines d (messageSize d) m) a j q))
 
-  swapped : (x y z : ℕ) → x * y * z ≡ x * z * y
-  swapped x y z = omega arith
-
   -- row i as a number
   packed-row : (i : ℕ) → i < size d
       → pack (line (size d) array i) ≡ xorTo (messageSize d) (λ a. bitAt (getD t a 0) i * pack (encodeLine d (rowOf a)))
@@ -64,7 +61,7 @@ module _ (d : Degree) (t : List ℕ) (U : Units d t) (m : List ℕ) (M : IsWord 
       ∙ to-map (λ x. x * 2 ^ j) (messageSize d) (λ a. Q a j * w a) (shift-adds j))
       ∙ to-swap (size d) (messageSize d) (λ j a. Q a j * w a * 2 ^ j)
       ∙ to-cong (messageSize d) _ _ (λ a z.
-      to-cong (size d) _ _ (λ j q. swapped (Q a j) (w a) (2 ^ j))
+      to-cong (size d) _ _ (λ j q. mul-right-comm (Q a j) (w a) (2 ^ j))
       ∙ sym (to-map (λ x. x * w a) (size d) (λ j. Q a j * 2 ^ j) (times-adds (summed d i h .small a)))
       ∙ ap₂ (λ (x y : ℕ). x * y) (sym (pack-row a z)) (sym (unit-bit d t U i a h z))
       ∙ mul-comm (pack (encodeLine d (rowOf a))) (bitAt (getD t a 0) i))
