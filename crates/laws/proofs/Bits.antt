@@ -4,7 +4,7 @@ use mathlib.Core.Path.{_≡_, refl, sym, ap, ap₂, _∙_}
 use mathlib.Core.Bool.{Bool, true, false, cond, _&&_, _||_, not}
 use mathlib.Core.Logic.{_⊎_, inl, inr}
 use Prim.Native.Nat.{ℕ, zero, suc, _+_, _-_, _*_, _/_, _%_, _^_, _<_, min, max, suc-le-suc}
-use native.Mathlib.Nat.{pow-suc, zero-lt-suc, mul-comm, div-div-eq-div-mul, div-one, mul-assoc, mul-mod-left, le-max-left}
+use native.Mathlib.Nat.{pow-suc, zero-add, zero-mul, zero-lt-suc, mul-comm, div-div-eq-div-mul, div-one, mul-assoc, mul-mod-left, le-max-left}
 use native.Mathlib.Omega.{arith}
 use lib.Arith.{bin-ind}
 use lib.Bits.{bitAnd, bitOr, bitXor, differ, and-step, or-step, xor-step, and-shr, and-mod, or-shr, or-mod, xor-shr, xor-mod}
@@ -62,6 +62,9 @@ or-bits a b x y = rw (or-step (a * 2 + bit x) (b * 2 + bit y), half-bit a x, hal
 
 pub xor-bits : (a b : ℕ) (x y : Bool) → bitXor (a * 2 + bit x) (b * 2 + bit y) ≡ bitXor a b * 2 + bit (xorb x y)
 xor-bits a b x y = rw (xor-step (a * 2 + bit x) (b * 2 + bit y), half-bit a x, half-bit b y, low-bit a x, low-bit b y, differ-bit x y)
+
+pub xor-bit : (x y : Bool) → bitXor (bit x) (bit y) ≡ bit (xorb x y)
+xor-bit x y = rw (zero-mul, zero-add (bit x), zero-add (bit y), zero-add (bit (xorb x y))) at (xor-bits 0 0 x y)
 
 -- the complement of a word of k + 1 digits
 pub not-bits : (k a : ℕ) (x : Bool) → a < 2 ^ k → 2 ^ suc k - 1 - (a * 2 + bit x) ≡ (2 ^ k - 1 - a) * 2 + bit (not x)

@@ -12,7 +12,7 @@ use lib.Pow.{shl-exact}
 use Rattle.laws.specs.Bits.{bit}
 use Rattle.laws.specs.working.Bits.{xorb}
 use Rattle.laws.proofs.Xor.{bit-ind}
-use Rattle.laws.proofs.Bits.{bit-one}
+use Rattle.laws.proofs.Bits.{bit-one, xor-bit}
 use Rattle.line.specs.declared.side.Side.the-variants.{One, Two}
 use Rattle.line.specs.declared.word.Word.{Word}
 use Rattle.line.specs.declared.packed.Line.{Line}
@@ -30,12 +30,6 @@ cell-of-line {cs} k p =
 -- cell k of a packed word
 pub bit-of-word : {n : ℕ} {ws : List ℕ} {w : ℕ} (k : ℕ) → PacksWord n ws w → w / 2 ^ k % 2 ≡ cell ws k
 bit-of-word {ws} k p = rw (p .ones, packBy-bit isOne refl ws k) (bit-one (p .cells .small k))
-
-xor-bit : (a b : Bool) → bitXor (bit a) (bit b) ≡ bit (xorb a b)
-xor-bit true true = refl
-xor-bit true false = refl
-xor-bit false true = refl
-xor-bit false false = refl
 
 put-by : (p : ℕ → Bool) → p 0 ≡ false → (cs : List ℕ) (w k c x : ℕ) → w ≡ packBy p cs → k < length cs → x ≡ bit (p c)
     → bitXor w (bitXor (w / 2 ^ k % 2) x * 2 ^ k) ≡ packBy p (set cs k c)
