@@ -2,18 +2,19 @@
 -- Assumes nothing.
 use mathlib.Core.Path.{_≡_, refl, sym, _∙_, subst}
 use mathlib.Core.Bool.{Bool, true, false, _&&_}
-use mathlib.Core.Logic.{_≢_, dite}
-use Prim.Native.Nat.{ℕ, zero, suc, _*_, _<_}
-use native.Mathlib.Decide.{decLt}
+use mathlib.Core.Logic.{_≢_}
+use Prim.Native.Nat.{ℕ, _*_}
 use native.Mathlib.Omega.{arith}
 use borrow.Author.Tests.{eqb-true, eq-eqb}
 use lib.Dec.{eqb}
+use Rattle.laws.specs.Searches.{firstOf}
+use Rattle.laws.proofs.Searches.{Choice, or-left, or-right, or-keeps, first-none, first-keeps}
 use Rattle.degree.specs.declared.Degree.{Degree}
 use Rattle.field.specs.declared.locate.Positions.{Positions}
 use Rattle.field.specs.declared.locate.Positions.the-variants.{Zero, One, Two, Unfit}
 use Rattle.degree.specs.Degree.{order}
 use Rattle.field.specs.Field.{power}
-use Rattle.field.specs.working.Positions.{total, fitting, orElse, firstOf, located}
+use Rattle.field.specs.working.Positions.{total, fitting, orElse, searched, located}
 use Rattle.field.specs.working.Fitting.{Within, Fits}
 use Rattle.field.proofs.Uniqueness.{unique}
 
@@ -24,40 +25,37 @@ unfit? (One i) = no (λ e. let z : _≡_ {A = ℕ} 0 1 = cc in omega arith)
 unfit? (Two i j) = no (λ e. let z : _≡_ {A = ℕ} 0 1 = cc in omega arith)
 unfit? Unfit = yes refl
 
--- ---- the first that fits
+choice : Choice orElse Unfit
+choice = record { none? = unfit?; first = first; second = λ q. refl }
+  where
+    first : (p q : Positions) → p ≢ Unfit → orElse p q ≡ p
+    first Zero q h = refl
+    first (One i) q h = refl
+    first (Two i j) q h = refl
+    first Unfit q h = absurd (h refl)
 
-or-left : (p q : Positions) → orElse p q ≡ Unfit → p ≡ Unfit
-or-left Zero q e = e
-or-left (One i) q e = e
-or-left (Two i j) q e = e
-or-left Unfit q e = refl
+-- ---- a search at no, one or two positions
 
-or-right : (p q : Positions) → orElse p q ≡ Unfit → q ≡ Unfit
-or-right Zero q e = let z : _≡_ {A = ℕ} 0 1 = cc in absurd (omega arith)
-or-right (One i) q e = let z : _≡_ {A = ℕ} 0 1 = cc in absurd (omega arith)
-or-right (Two i j) q e = let z : _≡_ {A = ℕ} 0 1 = cc in absurd (omega arith)
-or-right Unfit q e = e
+module _ {A : Type 0} {orElse : A → A → A} {none : A} (c : Choice orElse none) (f : Positions → A) (n : ℕ) where
+  -- what holds of each that is found holds of the one that the search finds
+  pub searched-keeps : (Q : A → Type 0) → ((p : Positions) → Within n p → f p ≢ none → Q (f p)) → searched orElse none f n ≢ none → Q (searched orElse none f n)
+  unfolding searched
+  searched-keeps Q h =
+      or-keeps c Q (f Zero) _ (h Zero tt)
+      (or-keeps c Q _ _ (first-keeps c Q (λ i. f (One i)) n (λ i l. h (One i) l))
+      (first-keeps c Q (λ j. firstOf orElse none (λ i. f (Two i j)) j) n
+      (λ j l. first-keeps c Q (λ i. f (Two i j)) j (λ i k. h (Two i j) (k, l)))))
 
-first-none : (p : ℕ → Positions) (n : ℕ) → firstOf p n ≡ Unfit → (i : ℕ) → i < n → p i ≡ Unfit
-unfolding firstOf
-first-none p zero e i h = absurd (omega arith)
-first-none p (suc n) e i h =
-    dite (decLt i n) (λ l. first-none p n (or-left (firstOf p n) (p n) e) i l)
-    (λ l. let z : i ≡ n = omega arith in rw z (or-right (firstOf p n) (p n) e))
-
--- what holds of each that fits holds of the first
-module _ (Q : Positions → Type 0) where
-  or-keeps : (p q : Positions) → (p ≢ Unfit → Q p) → (q ≢ Unfit → Q q) → orElse p q ≢ Unfit → Q (orElse p q)
-  or-keeps Zero q f g h = f h
-  or-keeps (One i) q f g h = f h
-  or-keeps (Two i j) q f g h = f h
-  or-keeps Unfit q f g h = g h
-
-  first-keeps : (p : ℕ → Positions) (n : ℕ) → ((i : ℕ) → i < n → p i ≢ Unfit → Q (p i)) → firstOf p n ≢ Unfit → Q (firstOf p n)
-  unfolding firstOf
-  first-keeps p zero f h = absurd (h refl)
-  first-keeps p (suc n) f h =
-      or-keeps (firstOf p n) (p n) (first-keeps p n (λ i l. f i (omega arith))) (f n (omega arith)) h
+  -- where it finds none, there is none
+  pub searched-none : searched orElse none f n ≡ none → (p : Positions) → Within n p → f p ≡ none
+  unfolding searched
+  searched-none e Zero w = or-left c (f Zero) _ e
+  searched-none e (One i) w = first-none c (λ i. f (One i)) n (or-left c _ _ (or-right c (f Zero) _ e)) i w
+  searched-none e (Two i j) w =
+      first-none c (λ i. f (Two i j)) j
+      (first-none c (λ j. firstOf orElse none (λ i. f (Two i j)) j) n
+      (or-right c (firstOf orElse none (λ i. f (One i)) n) _ (or-right c (f Zero) _ e)) j (w .1)) i (w .0)
+  searched-none e Unfit w = absurd w
 
 module _ (d : Degree) (s1 s3 : ℕ) where
   -- what the test of one answer lets through fits
@@ -89,25 +87,12 @@ module _ (d : Degree) (s1 s3 : ℕ) where
   -- an answer fits
   pub located-fits : located d s1 s3 ≢ Unfit → Fits d s1 s3 (located d s1 s3)
   unfolding located
-  located-fits =
-      or-keeps (Fits d s1 s3) (fitting d s1 s3 Zero) _ (fitting-fits Zero tt)
-      (or-keeps (Fits d s1 s3) _ _ (first-keeps (Fits d s1 s3) (λ i. fitting d s1 s3 (One i)) (order d) (λ i h. fitting-fits (One i) h))
-      (first-keeps (Fits d s1 s3) (λ j. firstOf (λ i. fitting d s1 s3 (Two i j)) j) (order d)
-      (λ j h. first-keeps (Fits d s1 s3) (λ i. fitting d s1 s3 (Two i j)) j (λ i l. fitting-fits (Two i j) (l, h)))))
+  located-fits = searched-keeps choice (fitting d s1 s3) (order d) (Fits d s1 s3) fitting-fits
 
   -- where none is answered, none fits
   pub located-none : located d s1 s3 ≡ Unfit → (p : Positions) → ¬ (Fits d s1 s3 p)
   unfolding located
-  located-none e Zero f = fits-fitting Zero f (or-left (fitting d s1 s3 Zero) _ e)
-  located-none e (One i) f =
-      fits-fitting (One i) f
-      (first-none (λ i. fitting d s1 s3 (One i)) (order d) (or-left _ _ (or-right (fitting d s1 s3 Zero) _ e)) i (f .within))
-  located-none e (Two i j) f =
-      fits-fitting (Two i j) f
-      (first-none (λ i. fitting d s1 s3 (Two i j)) j
-      (first-none (λ j. firstOf (λ i. fitting d s1 s3 (Two i j)) j) (order d)
-      (or-right (firstOf (λ i. fitting d s1 s3 (One i)) (order d)) _ (or-right (fitting d s1 s3 Zero) _ e)) j (f .within .1)) i (f .within .0))
-  located-none e Unfit f = f .within
+  located-none e p f = fits-fitting p f (searched-none choice (fitting d s1 s3) (order d) e p (f .within))
 
   -- what fits is the answer
   pub located-is : (p : Positions) → Fits d s1 s3 p → located d s1 s3 ≡ p

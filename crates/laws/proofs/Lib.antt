@@ -1,5 +1,6 @@
 pub mod Xor
 pub mod Tests
+pub mod Searches
 pub mod Bits
 pub mod Sums
 pub mod Masks

@@ -1,13 +1,12 @@
 -- The distance of the code, and bounded-distance decoding. Document 01, "The code": two codewords differ in 0 or in at least
 -- 6 cells; "One line": the one codeword within 2 of a full word, and it fails exactly if no codeword lies within 2.
 -- Assumes nothing.
-use mathlib.Core.Path.{_≡_, refl, sym, ap, _∙_, subst}
-use mathlib.Core.Bool.{Bool, true, false, cond, _&&_, true≢false}
-use mathlib.Core.Logic.{_↔_, _⊎_, inl, inr}
+use mathlib.Core.Path.{_≡_, refl, sym, ap, _∙_}
+use mathlib.Core.Bool.{Bool, true, false, cond, _&&_}
+use mathlib.Core.Logic.{_↔_, _≢_}
 use mathlib.Core.List.{List}
-use Prim.Native.Nat.{ℕ, zero, suc, _-_, _*_, _%_, _<_, _≤_}
-use native.Mathlib.Nat.{not-suc-le-zero, le-refl}
-use native.Mathlib.Decide.{ℕ-discrete}
+use Prim.Native.Nat.{ℕ, _-_, _*_, _%_, _<_, _≤_}
+use native.Mathlib.Nat.{le-refl}
 use native.Mathlib.Omega.{arith}
 use lib.Bits.{xor-comm}
 use lib.Dec.{eqb}
@@ -15,20 +14,22 @@ use lib.ListN.{length, take, drop, length-drop}
 use lib.Seq.{length-take-le, take-all}
 use borrow.Author.Tests.{eqb-true}
 use Rattle.laws.proofs.Xor.{xor-inj}
+use Rattle.laws.proofs.Tests.{and-true}
+use Rattle.laws.proofs.Searches.{Choice}
 use Rattle.degree.specs.declared.Degree.{Degree}
 use Rattle.field.specs.declared.locate.Positions.{Positions}
-use Rattle.field.specs.declared.locate.Positions.the-variants.{Zero, One, Two, Unfit}
 use Rattle.degree.specs.Degree.{size, order}
 use Rattle.field.specs.Field.{power}
-use Rattle.field.specs.working.Positions.{total}
+use Rattle.field.specs.working.Positions.{total, searched}
 use Rattle.laws.specs.Digits.{sumOver, ones}
 use Rattle.field.specs.Syndrome.{s1, s3, parity}
 use Rattle.field.specs.working.Fitting.{Within}
 use Rattle.field.proofs.Uniqueness.{unique}
 use Rattle.field.proofs.Primitive.{primitive}
+use Rattle.field.proofs.Locating.{searched-keeps, searched-none}
 use Rattle.line.specs.Cells.{IsWord, distance, flip, designedDistance}
 use Rattle.line.specs.Codeword.{Codeword, isCodeword}
-use Rattle.line.specs.Bounded.{Answer, Found, Failed, orElse, firstOf, itself, oneFlipped, twoFlipped, within2, bounded}
+use Rattle.line.specs.Bounded.{Answer, Found, Failed, orElse, itself, oneFlipped, twoFlipped, within2, bounded}
 use Rattle.line.proofs.CellLaws.{take-bits, word-known, distance-self, distance-parts, distance-length, triangle}
 use Rattle.line.proofs.SumLaws.{ones-distance}
 use Rattle.line.proofs.Flips.{flipped, Reached, reached, distance-zero, Between, between, flipped-word, flipped-near, flipped-sum}
@@ -36,35 +37,16 @@ use Rattle.line.proofs.Decoders.{Decoder, found-failed}
 
 -- ---- the search
 
-abbrev Hit : (ℕ → Answer) → ℕ → List ℕ → Type 0
-Hit f n c = (i : ℕ) × (i < n) × (f i ≡ Found c)
-
-first-sound : (f : ℕ → Answer) (n : ℕ) (c : List ℕ) → firstOf f n ≡ Found c → Hit f n c
-unfolding firstOf
-first-sound f zero c e = absurd (found-failed e refl)
-first-sound f (suc n) c e = go (f n) refl e (first-sound f n c)
+choice : Choice orElse Failed
+choice = record { none? = failed?; first = first; second = λ b. refl }
   where
-    go : (a : Answer) → f n ≡ a → orElse a (firstOf f n) ≡ Found c → (firstOf f n ≡ Found c → Hit f n c) → Hit f (suc n) c
-    go (Found d) ea e ih = (n, le-refl (suc n), ea ∙ e)
-    go Failed ea e ih = let r = ih e in (r .0, omega arith, r .2)
+    failed? : (a : Answer) → Dec (a ≡ Failed)
+    failed? (Found c) = no (found-failed refl)
+    failed? Failed = yes refl
 
--- something is found
-abbrev Some : Answer → Type 0
-Some a = (c : List ℕ) × (a ≡ Found c)
-
-or-some : (a b : Answer) → Some a ⊎ Some b → Some (orElse a b)
-or-some (Found c) b s = (c, refl)
-or-some Failed b (inl s) = absurd (found-failed (s .1) refl)
-or-some Failed b (inr s) = s
-
-first-some : (f : ℕ → Answer) (n i : ℕ) → i < n → Some (f i) → Some (firstOf f n)
-unfolding firstOf
-first-some f zero i h s = absurd (not-suc-le-zero h)
-first-some f (suc n) i h s = go (ℕ-discrete i n) (first-some f n i)
-  where
-    go : Dec (i ≡ n) → (i < n → Some (f i) → Some (firstOf f n)) → Some (orElse (f n) (firstOf f n))
-    go (yes e) ih = or-some (f n) (firstOf f n) (inl (subst (λ (j : ℕ). Some (f j)) e s))
-    go (no e) ih = or-some (f n) (firstOf f n) (inr (ih (omega arith) s))
+    first : (a b : Answer) → a ≢ Failed → orElse a b ≡ a
+    first (Found c) b h = refl
+    first Failed b h = absurd (h refl)
 
 module _ (passes : List ℕ → Bool) where
   itself-sound : (w c : List ℕ) → itself passes w ≡ Found c → (c ≡ w) × (passes c ≡ true)
@@ -75,53 +57,29 @@ module _ (passes : List ℕ → Bool) where
       go true ep e = let q : c ≡ w = cc in (q, ap passes q ∙ ep)
       go false ep e = absurd (found-failed e refl)
 
-  itself-some : (w : List ℕ) → passes w ≡ true → Some (itself passes w)
+  itself-found : (w : List ℕ) → passes w ≡ true → itself passes w ≡ Found w
   unfolding itself
-  itself-some w e = (w, rw e)
+  itself-found w e = rw e
+
+  -- the word with its cells flipped at given positions, where it passes
+  abbrev turned : List ℕ → Positions → Answer
+  turned w p = itself passes (flipped p w)
 
   -- what the search finds is the word with at most two flips, and passes
   search-sound : (w c : List ℕ) → within2 passes w ≡ Found c
       → (p : Positions) × (Within (length w) p) × (c ≡ flipped p w) × (passes c ≡ true)
-  unfolding within2 oneFlipped twoFlipped
-  search-sound w c e = go (itself passes w) refl (oneFlipped passes w) refl e
-    where
-      go : (a : Answer) → itself passes w ≡ a → (b : Answer) → oneFlipped passes w ≡ b
-          → orElse a (orElse b (twoFlipped passes w)) ≡ Found c
-          → (p : Positions) × (Within (length w) p) × (c ≡ flipped p w) × (passes c ≡ true)
-      go (Found x) ea b eb e = let r = itself-sound w c (ea ∙ e) in (Zero, tt, r .0, r .1)
-      go Failed ea (Found x) eb e =
-          let h = first-sound (λ i. itself passes (flip i w)) (length w) c (eb ∙ e) in
-          let r = itself-sound (flip (h .0) w) c (h .2) in
-          (One (h .0), h .1, r .0, r .1)
-      go Failed ea Failed eb e =
-          let h = first-sound (λ j. firstOf (λ i. itself passes (flip i (flip j w))) j) (length w) c e in
-          let k = first-sound (λ i. itself passes (flip i (flip (h .0) w))) (h .0) c (h .2) in
-          let r = itself-sound (flip (k .0) (flip (h .0) w)) c (k .2) in
-          (Two (k .0) (h .0), (k .1, h .1), r .0, r .1)
+  unfolding within2 oneFlipped twoFlipped searched
+  search-sound w c e =
+      searched-keeps choice (turned w) (length w)
+      (λ a. (c : List ℕ) → a ≡ Found c → (p : Positions) × (Within (length w) p) × (c ≡ flipped p w) × (passes c ≡ true))
+      (λ p h n c e. let r = itself-sound (flipped p w) c e in (p, h, r .0, r .1)) (found-failed e) c e
 
   -- it finds something where at most two flips give a word that passes
-  search-some : (w : List ℕ) (p : Positions) → Within (length w) p → passes (flipped p w) ≡ true → Some (within2 passes w)
-  unfolding within2 oneFlipped twoFlipped
-  search-some w p h t = or-some (itself passes w) (orElse (oneFlipped passes w) (twoFlipped passes w)) (go p h t)
-    where
-      rest : Some (oneFlipped passes w) ⊎ Some (twoFlipped passes w) → Some (orElse (oneFlipped passes w) (twoFlipped passes w))
-      rest = or-some (oneFlipped passes w) (twoFlipped passes w)
-
-      go : (p : Positions) → Within (length w) p → passes (flipped p w) ≡ true
-          → Some (itself passes w) ⊎ Some (orElse (oneFlipped passes w) (twoFlipped passes w))
-      go Zero h t = inl (itself-some w t)
-      go (One i) h t =
-          inr (rest (inl (first-some (λ i. itself passes (flip i w)) (length w) i h (itself-some (flip i w) t))))
-      go (Two i j) h t =
-          inr (rest (inr (first-some (λ j. firstOf (λ i. itself passes (flip i (flip j w))) j) (length w) j (h .1)
-          (first-some (λ i. itself passes (flip i (flip j w))) j i (h .0) (itself-some (flip i (flip j w)) t)))))
-      go Unfit h t = absurd h
+  search-some : (w : List ℕ) (p : Positions) → Within (length w) p → passes (flipped p w) ≡ true → within2 passes w ≢ Failed
+  unfolding within2 oneFlipped twoFlipped searched
+  search-some w p h t e = found-failed (itself-found (flipped p w) t) (searched-none choice (turned w) (length w) e p h)
 
 -- ---- the code
-
-and-true : (a b : Bool) → (a && b) ≡ true → (a ≡ true) × (b ≡ true)
-and-true true b e = (refl, e)
-and-true false b e = absurd (true≢false (sym e))
 
 module _ (d : Degree) where
   -- the cells that the two check sums go over are a word of n - 1 cells
@@ -220,14 +178,18 @@ module _ (d : Degree) where
 
   bounded-complete : {w c : List ℕ} → IsWord (size d) w → Codeword d c → distance w c ≤ 2 → bounded d w ≡ Found c
   unfolding bounded
-  bounded-complete {w} {c} l p h = let t = bounded-sound l (some .1) in some .1 ∙ ap Found (at-most-one l (t .0) p (t .1) h)
+  bounded-complete {w} {c} l p h = go (bounded d w) refl
     where
       r : Reached w c
       r = reached w c (l .small) (p .word .small) (l .long ∙ sym (p .word .long)) h
 
-      some : Some (bounded d w)
+      some : bounded d w ≢ Failed
       some =
           search-some (isCodeword d) w (r .positions) (r .within) (ap (isCodeword d) (sym (r .is)) ∙ is-codeword (p .word) .1 p)
+
+      go : (a : Answer) → bounded d w ≡ a → bounded d w ≡ Found c
+      go (Found x) e = let t = bounded-sound l e in e ∙ ap Found (at-most-one l (t .0) p (t .1) h)
+      go Failed e = absurd (some e)
 
   -- bounded-distance decoding finds exactly the codewords within 2
   pub bounded-decoder : Decoder (size d) (Codeword d) (bounded d)

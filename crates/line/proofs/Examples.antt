@@ -12,7 +12,8 @@ use Rattle.field.specs.Field.{double, timesPower}
 use Rattle.laws.specs.Digits.{sumOver, ones}
 use Rattle.line.specs.Cells.{cell, erasures, distance, filled, flip}
 use Rattle.line.specs.Codeword.{isCodeword}
-use Rattle.line.specs.Bounded.{Answer, Found, Failed, orBack, firstOf, itself, oneFlipped, twoFlipped, within2, bounded}
+use Rattle.laws.specs.Searches.{firstOf}
+use Rattle.line.specs.Bounded.{Answer, Found, Failed, orBack, itself, oneFlipped, twoFlipped, within2, bounded}
 use Rattle.line.specs.Decoding.{listTo, decode, decoded, message, messages}
 use Rattle.laws.specs.Sums.{sumTo}
 use Rattle.line.specs.Clauses.{reach, same, agrees, byReach, clause, count}

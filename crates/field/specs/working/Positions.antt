@@ -1,9 +1,10 @@
 -- The error positions that belong to the first two check sums s1 and s3: none, one or two cells below n - 1 whose flips
 -- would make both sums 0, or the answer that no such cells fit.
 use mathlib.Core.Bool.{true, false, _&&_}
-use Prim.Native.Nat.{ℕ, zero, suc, _*_}
+use Prim.Native.Nat.{ℕ, _*_}
 use lib.Bits.{bitXor}
 use lib.Dec.{eqb}
+use Rattle.laws.specs.Searches.{firstOf}
 use Rattle.degree.specs.declared.Degree.{Degree}
 use Rattle.field.specs.declared.locate.Positions.{Positions}
 use Rattle.field.specs.declared.locate.Positions.the-variants.{Zero, One, Two, Unfit}
@@ -29,17 +30,16 @@ orElse (One i) q = One i
 orElse (Two i j) q = Two i j
 orElse Unfit q = q
 
--- the first that fits among p 0 .. p (n - 1)
-unfoldable pub firstOf : (ℕ → Positions) → ℕ → Positions
-firstOf p zero = Unfit
-firstOf p (suc n) = orElse (firstOf p n) (p n)
+-- the first that is found by f: at no position; else at one position i below n; else at two positions i < j below n
+unfoldable pub searched : {A : Type 0} → (A → A → A) → A → (Positions → A) → ℕ → A
+searched orElse none f n =
+    orElse (f Zero)
+    (orElse (firstOf orElse none (λ i. f (One i)) n)
+    (firstOf orElse none (λ j. firstOf orElse none (λ i. f (Two i j)) j) n))
 
--- no position; else one position i; else two positions i < j; else none fit
+-- the positions that fit, else none fit
 unfoldable pub located : Degree → ℕ → ℕ → Positions
-located d s1 s3 =
-    orElse (fitting d s1 s3 Zero)
-    (orElse (firstOf (λ i. fitting d s1 s3 (One i)) (order d))
-    (firstOf (λ j. firstOf (λ i. fitting d s1 s3 (Two i j)) j) (order d)))
+located d s1 s3 = searched orElse Unfit (fitting d s1 s3) (order d)
 
 -- the positions without the answer of two: where the flip of two cells is of no use, they need not be searched
 abbrev pub atMostOne : Positions → Positions
