@@ -9,7 +9,7 @@ use native.Mathlib.Omega.{arith}
 use borrow.Author.Tests.{eq-eqb, eqb-true}
 use lib.Dec.{T, eqb}
 use Rattle.laws.specs.Tests.{every}
-use Rattle.laws.proofs.Tests.{and-true, every-at}
+use Rattle.laws.proofs.Tests.{and-true, every-at, every-true}
 use Rattle.degree.specs.declared.Degree.{Degree}
 use Rattle.degree.specs.Degree.{size}
 use Rattle.line.specs.Cells.{cell, bit, isErased, erasures}
@@ -21,7 +21,6 @@ use Rattle.array.specs.working.Steps.{IsArray}
 use Rattle.array.specs.working.Runs.{IsFull}
 use Rattle.array.proofs.ArrayLaws.{line-cells, transpose-cells}
 use Rattle.array.proofs.ReportLaws.{no-erasures}
-use Rattle.array.proofs.Theorem.{every-true}
 
 -- a test that is passed, and one that cannot be
 passed : (b : Bool) → T b → b ≡ true

@@ -12,6 +12,7 @@ use borrow.Author.Tests.{eq-eqb, ne-eqb}
 use lib.ListN.{take}
 use lib.Seq.{take-add, take-all}
 use Rattle.laws.specs.Tests.{every}
+use Rattle.laws.proofs.Tests.{every-next}
 use Rattle.degree.specs.declared.Degree.{Degree}
 use Rattle.degree.specs.Degree.{size}
 use Rattle.line.specs.Cells.{cell, bit, isErased, erasures}
@@ -84,7 +85,7 @@ testing-next {d} {rows} {all} {b} {i} {n} {w} c e h f o t = record {
   done = λ m a k.
       let inside : i < size d = omega arith in
       let p : PacksWord (size d) (line (size d) m i) (value w) = record { room = size-room d; cells = line-cells (size d) (size d) i a inside; ones = ap value o ∙ f (size d) m k inside .ones } in
-      rw add-one (ap₂ _&&_ (t (line (size d) m i) p) (c .done m a k));
+      every-next (codeAt d m) i (t (line (size d) m i) p) (c .done m a k);
 }
 
 pub testing-end : {d : Degree} {rows : List ℕ} {all : Bool} {i n : ℕ} → Testing d rows all i → n ≡ size d → n ≤ i

@@ -2,15 +2,14 @@
 -- and it is closed. Document 00, demand 3, last sentence. Also what every half and every plain decoding keeps, and the bound
 -- of the count.
 -- Assumes nothing.
-use mathlib.Core.Path.{_≡_, refl, ap, ap₂, _∙_}
-use mathlib.Core.Bool.{Bool, true, _&&_}
+use mathlib.Core.Path.{_≡_, refl, ap, _∙_}
+use mathlib.Core.Bool.{true}
 use mathlib.Core.List.{List}
 use Prim.Native.Nat.{ℕ, zero, suc, _+_, _*_, _<_, _≤_}
-use native.Mathlib.Nat.{le-refl}
 use native.Mathlib.Omega.{arith}
 use lib.ListN.{drop, getD}
-use Rattle.laws.specs.Sums.{sumTo}
-use Rattle.laws.specs.Tests.{every}
+use Rattle.laws.proofs.Sums.{sum-bound}
+use Rattle.laws.proofs.Tests.{every-true}
 use Rattle.degree.specs.declared.Degree.{Degree}
 use Rattle.degree.specs.Degree.{size}
 use Rattle.line.specs.working.Packed.{IsLine}
@@ -28,15 +27,6 @@ use Rattle.array.specs.Halves.{rowHalf, columnHalf, rowCount, columnCoun
 use Rattle.array.specs.Plain.{plain, plainCount, closed, RowCondition}
 use Rattle.array.specs.Encoding.{ProductCodeword}
 use Rattle.array.proofs.ArrayLaws.{Even, each-cell, line-at, line-cells, transpose-cells, length-transpose, transpose-transpose, length-lines, line-lines, lines-are}
-
-pub every-true : (f : ℕ → Bool) (n : ℕ) → ((j : ℕ) → j < n → f j ≡ true) → every f n ≡ true
-every-true f zero h = refl
-every-true f (suc n) h = ap₂ _&&_ (h n (le-refl (suc n))) (every-true f n (λ j q. h j (omega arith)))
-
-sum-bound : (f : ℕ → ℕ) (b n : ℕ) → ((i : ℕ) → i < n → f i ≤ b) → sumTo f n ≤ n * b
-unfolding sumTo
-sum-bound f b zero h = omega arith
-sum-bound f b (suc n) h = omega (arith, sum-bound f b n (λ i q. h i (omega arith)), h n (le-refl (suc n)))
 
 module _ (d : Degree) where
   -- n by n cells, each 0, 1 or 2
@@ -87,8 +77,11 @@ module _ (d : Degree) where
   pub row-count-le : (m r w : List ℕ) → Whole m → rowCount d m r w ≤ size d * (size d + 2)
   unfolding rowCount
   row-count-le m r w a =
-      sum-bound (λ i. count (bounded d) (line (size d) m i) (line (size d) r i) (getD w i 0)) (size d + 2) (size d)
-      (λ i h. count-le d (line (size d) m i) (line (size d) r i) (getD w i 0) (row-line a i h))
+      omega (
+        arith,
+        sum-bound (λ i. count (bounded d) (line (size d) m i) (line (size d) r i) (getD w i 0)) (size d + 2) (size d)
+            (λ i h. count-le d (line (size d) m i) (line (size d) r i) (getD w i 0) (row-line a i h)),
+      )
 
   pub column-count-le : (m r w : List ℕ) → Whole m → columnCount d m r w ≤ size d * (size d + 2)
   unfolding columnCount

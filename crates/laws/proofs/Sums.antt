@@ -26,6 +26,10 @@ unfolding sumTo
 sum-constant m zero = omega arith
 sum-constant m (suc n) = rw mul-suc (omega (arith, sum-constant m n))
 
+-- terms that are at most b
+pub sum-bound : (f : ℕ → ℕ) (b n : ℕ) → ((k : ℕ) → k < n → f k ≤ b) → sumTo f n ≤ b * n
+sum-bound f b n h = rw (← sum-constant b n) (sum-le f (λ k. b) n h)
+
 pub sum-zero : (n : ℕ) → sumTo (λ i. 0) n ≡ 0
 sum-zero n = sum-constant 0 n ∙ zero-mul n
 

@@ -1,11 +1,12 @@
 -- Tests that the checker computes, over all numbers below a bound or all entries of a table, and what a passed test says of each.
 -- Assumes nothing.
-use mathlib.Core.Path.{_≡_, refl, _∙_, subst, sym}
+use mathlib.Core.Path.{_≡_, refl, _∙_, ap₂, subst, sym}
 use mathlib.Core.Bool.{Bool, true, false, _&&_, true≢false}
 use mathlib.Core.Logic.{_⊎_, inl, inr}
 use mathlib.Core.List.{List, [], _∷_}
-use Prim.Native.Nat.{ℕ, zero, suc, _<_}
-use native.Mathlib.Nat.{eq-or-lt-of-le, le-of-suc-le-suc, not-suc-le-zero, suc-inj}
+use Prim.Native.Nat.{ℕ, zero, suc, _+_, _<_}
+use native.Mathlib.Nat.{eq-or-lt-of-le, le-of-suc-le-suc, le-refl, not-suc-le-zero, suc-inj}
+use native.Mathlib.Numerals.{add-one}
 use native.Mathlib.Omega.{arith}
 use lib.Dec.{T}
 use lib.ListN.{length, getD}
@@ -32,6 +33,15 @@ every-at f (suc n) t {k} h = pick (eq-or-lt-of-le (le-of-suc-le-suc h)) (every-a
     pick : (k ≡ n) ⊎ (k < n) → (k < n → T (f k)) → T (f k)
     pick (inl e) ih = subst (λ (m : ℕ). T (f m)) (sym e) (and-left (f n) (every f n) t)
     pick (inr l) ih = ih l
+
+-- one number more
+pub every-next : (f : ℕ → Bool) (n : ℕ) {one all : Bool} → one ≡ f n → all ≡ every f n → (one && all) ≡ every f (n + 1)
+every-next f n e h = rw add-one (ap₂ _&&_ e h)
+
+-- and what each says of the test
+pub every-true : (f : ℕ → Bool) (n : ℕ) → ((k : ℕ) → k < n → f k ≡ true) → every f n ≡ true
+every-true f zero h = refl
+every-true f (suc n) h = ap₂ _&&_ (h n (le-refl (suc n))) (every-true f n (λ k l. h k (omega arith)))
 
 -- the test passes at each list of n bits
 unfoldable pub everyBits : ℕ → (List ℕ → Bool) → Bool

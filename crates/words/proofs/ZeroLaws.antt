@@ -6,7 +6,6 @@ use mathlib.Core.List.{List}
 use mathlib.Core.Logic.{dite}
 use Prim.Native.Nat.{ℕ, zero, suc, _+_, _/_, _%_, _^_}
 use native.Mathlib.Nat.{zero-div}
-use native.Mathlib.Numerals.{add-one}
 use native.Mathlib.Decide.{decLt}
 use native.Mathlib.Omega.{arith}
 use lib.Bits.{bitOr, or-add-and, and-le-r}
@@ -14,7 +13,7 @@ use lib.Dec.{T, eqb, eqb→eq}
 use lib.ListN.{length, getD, List·getD-eq-default}
 use borrow.Author.Tests.{ne-eqb}
 use Rattle.laws.specs.Tests.{every}
-use Rattle.laws.proofs.Tests.{every-at}
+use Rattle.laws.proofs.Tests.{every-at, every-next}
 use Rattle.words.specs.working.Network.{Turned}
 
 -- the first k words are 0
@@ -33,7 +32,7 @@ or-is-zero (suc x) (suc y) =
 
 -- one word more
 pub zeros-next : (words : List ℕ) (i any : ℕ) → eqb any 0 ≡ Zeros words i → eqb (bitOr any (getD words i 0)) 0 ≡ Zeros words (i + 1)
-zeros-next words i any h = rw add-one (or-is-zero any (getD words i 0) ∙ ap (λ (b : Bool). eqb (getD words i 0) 0 && b) h)
+zeros-next words i any h = or-is-zero any (getD words i 0) ∙ every-next (λ i. eqb (getD words i 0) 0) i refl h
 
 -- 64 words that are 0 are their own transpose
 pub zeros-turned : (a : List ℕ) → length a ≡ 64 → Zeros a (length a) ≡ true → Turned a a

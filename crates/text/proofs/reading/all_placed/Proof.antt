@@ -2,12 +2,11 @@
 -- Assumes nothing.
 use Prim.Native.Nat.{_-_, _≤_}
 use mathlib.Core.Path.{_≡_, refl, ap, _∙_}
-use mathlib.Core.Bool.{Bool, true, _&&_}
 use native.Mathlib.Omega.{arith}
 use lib.ListN.{length}
 use Rattle.laws.specs.Tests.{every}
+use Rattle.laws.proofs.Tests.{every-next}
 use Rattle.text.specs.Text.{byte, placed}
-use Rattle.text.proofs.Testing.{tested-more}
 use Rattle.text.proofs.reading.all_placed.Statement.{statement}
 use Rattle.text.proofs.reading.all_placed.Tie as tie
 
@@ -37,8 +36,7 @@ loop-again c =
     let a = c .before .before .before .before .before .args in
     let n = a .n in
     let s = a .text .now in
-    let e = c .is-placed .ensures in
-    (omega arith, ap (λ (x : Bool). x && c .before .before .before .loop .all) e ∙ tested-more (λ p. placed n p (byte s p)) true _ _ (c .before .before .before .loop .inv .1))
+    (omega arith, every-next (λ p. placed n p (byte s p)) _ (c .is-placed .ensures) (c .before .before .before .loop .inv .1))
 
 returns : tie.Need-returns Inv-loop μ-loop
 returns c =

@@ -2,12 +2,11 @@
 -- Assumes nothing.
 use Prim.Native.Nat.{_-_, _≤_}
 use mathlib.Core.Path.{_≡_, refl, ap, _∙_}
-use mathlib.Core.Bool.{true}
 use native.Mathlib.Omega.{arith}
 use lib.ListN.{length}
 use Rattle.laws.specs.Tests.{every}
+use Rattle.laws.proofs.Tests.{every-next}
 use Rattle.text.specs.Text.{byte, isKnown, known}
-use Rattle.text.proofs.Testing.{tested-more}
 use Rattle.text.proofs.reading.is_known.Statement.{statement}
 use Rattle.text.proofs.reading.is_known.Tie as tie
 
@@ -32,7 +31,7 @@ loop-less c = omega arith
 loop-again : tie.Need-loop-again Inv-loop μ-loop
 loop-again c =
     let s = c .before .before .before .args .text .now in
-    (omega arith, tested-more (λ p. isKnown (byte s p)) true _ _ (c .before .before .loop .inv .1))
+    (omega arith, every-next (λ p. isKnown (byte s p)) _ refl (c .before .before .loop .inv .1))
 
 returns : tie.Need-returns Inv-loop μ-loop
 unfolding known
