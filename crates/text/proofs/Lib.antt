@@ -1,6 +1,5 @@
 mod WritingLaws
 mod Decimals
-mod Testing
 mod SheetLaws
 mod Examples
 pub mod ReadBack

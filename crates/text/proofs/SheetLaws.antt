@@ -38,12 +38,9 @@ use Rattle.text.proofs.WritingLaws.{cells-even}
 
 -- ---- sizes
 
-pub size-le : (d : Degree) {x : ℕ} → x ≡ size d → x ≤ 64
-size-le Four e = omega arith
-size-le Six e = omega arith
-
-pub square-le : (d : Degree) {x : ℕ} → x ≡ size d → x * x ≤ 4096
-square-le d e = mul-le-mul (size-le d e) (size-le d e)
+-- the lines of a sheet have 4160 bytes at most
+pub room-le : (n : ℕ) → n ≤ 64 → n * (n + 1) ≤ 4160
+room-le n h = let l : n + 1 ≤ 65 = omega arith in mul-le-mul h l
 
 -- ---- the cells that are read make an array
 

@@ -3,7 +3,7 @@
 use borrow.Author.Tests.{eq-eqb, ne-eqb}
 use native.Mathlib.Omega.{arith}
 use Rattle.text.specs.Text.{shaped}
-use Rattle.text.proofs.Testing.{room-le}
+use Rattle.text.proofs.SheetLaws.{room-le}
 use borrow.Author.Needs.{needs}
 use Rattle.text.proofs.reading.is_shaped.Statement.{statement}
 use Rattle.text.proofs.reading.is_shaped.Tie as tie

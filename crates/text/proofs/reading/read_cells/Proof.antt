@@ -7,7 +7,7 @@ use native.Mathlib.Omega.{arith}
 use lib.ListN.{take, drop}
 use Rattle.text.specs.Text.{cellOf, cellsOf}
 use Rattle.array.proofs.ArrayLaws.{length-lines}
-use Rattle.text.proofs.Testing.{room-le}
+use Rattle.text.proofs.SheetLaws.{room-le}
 use Rattle.text.proofs.WritingLaws.{Lined, lined-start, lined-part, lined-source, lined-part-length, lined-room, lined-next, lined-end, wrote-length, wrote-all, cells-even}
 use Rattle.text.proofs.reading.read_cells.Statement.{statement}
 use Rattle.text.proofs.reading.read_cells.Tie as tie

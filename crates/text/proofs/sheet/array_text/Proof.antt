@@ -3,7 +3,8 @@
 use Prim.Native.Nat.{_*_}
 use mathlib.Core.Path.{sym, ap₂}
 use native.Mathlib.Omega.{arith}
-use Rattle.text.proofs.SheetLaws.{size-le, cells-array, report-is}
+use Rattle.line.proofs.Bounds.{size-le}
+use Rattle.text.proofs.SheetLaws.{cells-array, report-is}
 use borrow.Author.Needs.{needs}
 use Rattle.text.proofs.sheet.array_text.Statement.{statement}
 use Rattle.text.proofs.sheet.array_text.Tie as tie

@@ -2,7 +2,8 @@
 -- Assumes nothing.
 use mathlib.Core.Path.{refl, sym, _∙_}
 use Rattle.line.proofs.Refusing.{bits-named}
-use Rattle.text.proofs.SheetLaws.{size-le, is-of}
+use Rattle.line.proofs.Bounds.{size-le}
+use Rattle.text.proofs.SheetLaws.{is-of}
 use borrow.Author.Needs.{needs}
 use Rattle.text.proofs.sheet.lines_test.Statement.{statement}
 use Rattle.text.proofs.sheet.lines_test.Tie as tie

@@ -3,7 +3,8 @@
 use mathlib.Core.Path.{sym}
 use native.Mathlib.Omega.{arith}
 use lib.Seq.{length-take-le}
-use Rattle.text.proofs.SheetLaws.{size-le, words-are, decoded-answer, never-refused}
+use Rattle.line.proofs.Bounds.{size-le}
+use Rattle.text.proofs.SheetLaws.{words-are, decoded-answer, never-refused}
 use borrow.Author.Needs.{needs}
 use Rattle.text.proofs.step.decoded.Statement.{statement}
 use Rattle.text.proofs.step.decoded.Tie as tie

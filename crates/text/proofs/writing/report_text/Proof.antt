@@ -5,7 +5,7 @@ use mathlib.Core.Logic.{⊎-elim}
 use native.Mathlib.Omega.{arith}
 use Rattle.laws.specs.Bits.{bit}
 use Rattle.text.specs.Text.{reportText}
-use Rattle.text.proofs.Testing.{room-le}
+use Rattle.text.proofs.SheetLaws.{room-le}
 use Rattle.text.proofs.WritingLaws.{wrote-then, wrote-length}
 use borrow.Author.Needs.{needs}
 use Rattle.text.proofs.writing.report_text.Statement.{statement}
