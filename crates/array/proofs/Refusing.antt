@@ -1,9 +1,9 @@
 -- The tests of the calls on arrays: by the degree that a number names, and what those of a taken call say of its input.
 -- Assumes nothing.
-use mathlib.Core.Path.{_≡_, refl, ap, _∙_}
-use mathlib.Core.Bool.{true, false, not, _||_}
+use mathlib.Core.Path.{_≡_, refl, sym, ap, _∙_}
+use mathlib.Core.Bool.{Bool, true, false, not, _||_}
 use mathlib.Core.List.{List, [], _∷_}
-use Prim.Native.Nat.{ℕ, _+_, _-_, _*_, _^_, _<_, _≤_}
+use Prim.Native.Nat.{ℕ, suc, _+_, _-_, _*_, _^_, _<_, _≤_}
 use native.Mathlib.Nat.{add-sub-cancel-left, mul-le-mul}
 use native.Mathlib.Omega.{arith}
 use borrow.Author.Tests.{eqb-false, ltb-false, leb-false}
@@ -14,9 +14,9 @@ use Rattle.degree.specs.declared.Degree.the-variants.{Four, Six}
 use Rattle.degree.specs.declared.Named.the-variants.{Known}
 use Rattle.degree.specs.Degree.{bits, size, named}
 use Rattle.line.specs.declared.refusals.Call.{Call}
-use Rattle.line.specs.Cells.{IsWord}
+use Rattle.line.specs.Cells.{cell, IsWord}
 use Rattle.line.specs.Encoding.{messageSize}
-use Rattle.line.specs.Refusals.{refusal, misfit, atMost}
+use Rattle.line.specs.Refusals.{refusal, unnamed, misfit, some, atMost}
 use Rattle.line.specs.working.Calls.{Tested}
 use Rattle.line.proofs.Bounds.{square-le, size-le}
 use Rattle.line.proofs.Refusing.{or-none, some-none, fits, cells-small, known-bits, known-size, bits-named, none-applies, tested-known}
@@ -31,73 +31,63 @@ bits-message : (d : Degree) → messageCells (bits d) ≡ messageSize d
 bits-message Four = refl
 bits-message Six = refl
 
-known-message : (degree : ℕ) (d : Degree) → named degree ≡ Known d → messageCells degree ≡ messageSize d
+pub known-message : (degree : ℕ) (d : Degree) → named degree ≡ Known d → messageCells degree ≡ messageSize d
 known-message degree d e = ap messageCells (known-bits degree d e) ∙ bits-message d
+
+-- ---- a slice of m by m cells, where m is also n
+
+pub square-misfit : (l : ℕ) {m n : ℕ} → m ≡ n → misfit l (m * m) ≡ misfit l (n * n)
+square-misfit l e = ap (λ (x : ℕ). misfit l (x * x)) e
+
+square-fits : (l : ℕ) {m n : ℕ} → m ≡ n → misfit l (m * m) ≡ false → l ≡ n * n
+square-fits l {m} e h = fits l (m * m) h ∙ ap (λ (x : ℕ). x * x) e
+
+-- ---- a call with two conditions of the number 3, and a bound on lent cells
+
+module _ (degree : ℕ) (one two : Bool) (bound : ℕ) (lent : List ℕ) where
+  abbrev Lent : List (ℕ × Bool)
+  Lent = (1, unnamed degree) ∷ (3, some (one ∷ two ∷ [])) ∷ (4, not (atMost bound lent)) ∷ []
+
+  pub lent-known : (d : Degree) (r : Call) {x y : Bool} → named degree ≡ Known d → x ≡ one → y ≡ two
+      → Tested (bits d) ((3, x || y) ∷ (4, not (atMost bound lent)) ∷ []) r → Tested degree Lent r
+  lent-known d r {x} {y} e f g h =
+      tested-known degree d ((3, x || y) ∷ (4, not (atMost bound lent)) ∷ []) Lent r e (rw (e, f, g, or-none two)) h
+
+  lent-taken : refusal Lent ≡ 0 → (one ≡ false) × (two ≡ false) × ((i : ℕ) → cell lent i < suc bound)
+  lent-taken z =
+      let n = none-applies Lent tt z in
+      let l = some-none (one ∷ two ∷ []) (n .1 .0) in
+      (l .0, l .1 .0, cells-small bound lent (n .1 .1 .0))
 
 -- ---- encode
 
 module _ (degree : ℕ) (message cells : List ℕ) (d : Degree) where
-  pub encode-known : (r : Call) {n k : ℕ} → named degree ≡ Known d → n ≡ size d → k ≡ messageSize d
-      → Tested (bits d) ((3, misfit (length message) (k * k) || misfit (length cells) (n * n)) ∷ (4, not (atMost 1 message)) ∷ []) r
-      → Tested degree (encodeTests degree message cells) r
-  unfolding encodeTests
-  encode-known r {n} {k} e f g h =
-      tested-known degree d ((3, misfit (length message) (k * k) || misfit (length cells) (n * n)) ∷ (4, not (atMost 1 message)) ∷ []) (encodeTests degree message cells) r e
-      (rw (e, known-message degree d e, known-size degree d e, f, g, or-none (misfit (length cells) (size d * size d)))) h
-
   pub encode-taken : (refusal (encodeTests degree message cells) ≡ 0) × (named degree ≡ Known d)
       → IsWord (messageSize d * messageSize d) message × (length cells ≡ size d * size d)
   unfolding encodeTests
   encode-taken h =
-      let n = none-applies (encodeTests degree message cells) tt (h .0) in
-      let l = some-none (misfit (length message) (messageCells degree * messageCells degree) ∷ misfit (length cells) (2 ^ degree * 2 ^ degree) ∷ []) (n .1 .0) in (
-        record {
-          long = fits (length message) (messageCells degree * messageCells degree) (l .0) ∙ ap (λ (k : ℕ). k * k) (known-message degree d (h .1));
-          small = cells-small 1 message (n .1 .1 .0);
-        },
-        fits (length cells) (2 ^ degree * 2 ^ degree) (l .1 .0) ∙ ap (λ (k : ℕ). k * k) (known-size degree d (h .1)),
-      )
+      let t = lent-taken degree _ _ 1 message (h .0) in
+      (record { long = square-fits (length message) (known-message degree d (h .1)) (t .0); small = t .2 }, square-fits (length cells) (known-size degree d (h .1)) (t .1))
 
 -- ---- extract
 
 module _ (degree : ℕ) (cells message : List ℕ) (d : Degree) where
-  pub extract-known : (r : Call) {n k : ℕ} → named degree ≡ Known d → n ≡ size d → k ≡ messageSize d
-      → Tested (bits d) ((3, misfit (length cells) (n * n) || misfit (length message) (k * k)) ∷ (4, not (atMost 2 cells)) ∷ []) r
-      → Tested degree (extractTests degree cells message) r
-  unfolding extractTests
-  extract-known r {n} {k} e f g h =
-      tested-known degree d ((3, misfit (length cells) (n * n) || misfit (length message) (k * k)) ∷ (4, not (atMost 2 cells)) ∷ []) (extractTests degree cells message) r e
-      (rw (e, known-message degree d e, known-size degree d e, f, g, or-none (misfit (length message) (messageSize d * messageSize d)))) h
-
   pub extract-taken : (refusal (extractTests degree cells message) ≡ 0) × (named degree ≡ Known d)
       → (length cells ≡ size d * size d) × (length message ≡ messageSize d * messageSize d)
   unfolding extractTests
   extract-taken h =
-      let n = none-applies (extractTests degree cells message) tt (h .0) in
-      let l = some-none (misfit (length cells) (2 ^ degree * 2 ^ degree) ∷ misfit (length message) (messageCells degree * messageCells degree) ∷ []) (n .1 .0) in (
-        fits (length cells) (2 ^ degree * 2 ^ degree) (l .0) ∙ ap (λ (k : ℕ). k * k) (known-size degree d (h .1)),
-        fits (length message) (messageCells degree * messageCells degree) (l .1 .0) ∙ ap (λ (k : ℕ). k * k) (known-message degree d (h .1)),
-      )
+      let t = lent-taken degree _ _ 2 cells (h .0) in
+      (square-fits (length cells) (known-size degree d (h .1)) (t .0), square-fits (length message) (known-message degree d (h .1)) (t .1))
 
 -- ---- the look-up of a row
 
 module _ (degree : ℕ) (cells : List ℕ) (index : ℕ) (d : Degree) where
-  pub row-known : (r : Call) {n : ℕ} → named degree ≡ Known d → n ≡ size d
-      → Tested (bits d) ((3, misfit (length cells) (n * n) || leb n index) ∷ (4, not (atMost 2 cells)) ∷ []) r
-      → Tested degree (rowTests degree cells index []) r
-  unfolding rowTests
-  row-known r {n} e f h =
-      tested-known degree d ((3, misfit (length cells) (n * n) || leb n index) ∷ (4, not (atMost 2 cells)) ∷ []) (rowTests degree cells index []) r e
-      (rw (e, known-size degree d e, f, or-none (leb (size d) index))) h
-
   pub row-taken : (refusal (rowTests degree cells index []) ≡ 0) × (named degree ≡ Known d) → (length cells ≡ size d * size d) × (index < size d)
   unfolding rowTests
   row-taken h =
-      let n = none-applies (rowTests degree cells index []) tt (h .0) in
-      let l = some-none (misfit (length cells) (2 ^ degree * 2 ^ degree) ∷ leb (2 ^ degree) index ∷ []) (n .1 .0) in (
-        fits (length cells) (2 ^ degree * 2 ^ degree) (l .0) ∙ ap (λ (k : ℕ). k * k) (known-size degree d (h .1)),
-        rw (known-size degree d (h .1)) at (leb-false (2 ^ degree) index (l .1 .0)),
-      )
+      let t = lent-taken degree _ _ 2 cells (h .0) in
+      let n = known-size degree d (h .1) in
+      (square-fits (length cells) n (t .0), rw n at (leb-false (2 ^ degree) index (t .1)))
 
 -- ---- the row that a taken look-up gives
 
@@ -149,8 +139,8 @@ module _ (degree l : ℕ) (r w s : List ℕ) (d : Degree) where
       let n = none-applies (decodeTests degree l r w s []) tt (h .0) in
       let m = some-none (misfit (length r) (k * k) ∷ misfit (length w) (2 * l * k) ∷ misfit (length s) (k * k) ∷ []) (n .1 .1 .0) in
       let i = few-iterations l (n .1 .0) in (
-        record { long = fits (length r) (k * k) (m .0) ∙ ap (λ (x : ℕ). x * x) e; small = cells-small 2 r (n .1 .1 .1 .0) },
-        fits (length s) (k * k) (m .1 .1 .0) ∙ ap (λ (x : ℕ). x * x) e,
+        record { long = square-fits (length r) e (m .0); small = cells-small 2 r (n .1 .1 .1 .0) },
+        square-fits (length s) e (m .1 .1 .0),
         fits (length w) (2 * l * k) (m .1 .0) ∙ ap (λ (x : ℕ). 2 * l * x) e,
         i .1,
         i .0,

@@ -1,10 +1,14 @@
 -- `array::refusals::row_test` meets its contract: the degree is tested first, then what is lent, at the size of the degree.
 -- Assumes nothing.
-use mathlib.Core.Path.{sym, _∙_}
+use Prim.Native.Nat.{ℕ}
+use mathlib.Core.Path.{sym, ap, _∙_}
 use native.Mathlib.Omega.{arith}
+use lib.Dec.{leb}
+use lib.ListN.{length}
+use Rattle.line.proofs.Refusing.{known-size}
 use Rattle.line.proofs.Bounds.{square-le, size-le}
 use Rattle.array.specs.Refusals.{rowTests}
-use Rattle.array.proofs.Refusing.{row-known}
+use Rattle.array.proofs.Refusing.{square-misfit, lent-known}
 use borrow.Author.Needs.{needs}
 use Rattle.array.proofs.refusals.row_test.Statement.{statement}
 use Rattle.array.proofs.refusals.row_test.Tie as tie
@@ -28,11 +32,14 @@ enum-told : tie.Need-enum-told
 enum-told c = search needs
 
 returns : tie.Need-returns
+unfolding rowTests
 returns c =
     let q = c .before .before .before in
     let s = q .before .before .before .before .args in
-    row-known (s .degree) (s .cells .now) (s .index) (q .named .given .0 .0) (c .lent-test .result)
-    (sym (q .before .before .degree-of .ensures) ∙ q .named .given .1) (c .before .size-of .ensures) (c .lent-test .ensures)
+    let d = q .named .given .0 .0 in
+    let e = sym (q .before .before .degree-of .ensures) ∙ q .named .given .1 in
+    let n = c .before .size-of .ensures ∙ sym (known-size (s .degree) d e) in
+    lent-known (s .degree) _ _ 2 (s .cells .now) d (c .lent-test .result) e (square-misfit (length (s .cells .now)) n) (ap (λ (x : ℕ). leb x (s .index)) n) (c .lent-test .ensures)
 
 returns-2 : tie.Need-returns-2
 unfolding rowTests
