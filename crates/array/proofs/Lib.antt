@@ -1,4 +1,5 @@
 pub mod ArrayLaws
+pub mod WrittenLines
 mod WordLaws
 pub mod ArrayEncoding
 mod PackedEncoding

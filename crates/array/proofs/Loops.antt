@@ -2,17 +2,17 @@
 -- Assumes nothing.
 use mathlib.Core.Path.{_≡_, refl, sym, ap, ap₂, _∙_, subst}
 use mathlib.Core.Bool.{cond}
-use mathlib.Core.List.{List, _++_, append-assoc, append-nil}
+use mathlib.Core.List.{List}
 use Prim.Native.Nat.{ℕ, zero, suc, _+_, _-_, _*_, _<_, _≤_}
-use native.Mathlib.Nat.{zero-mul, one-mul, suc-mul, add-zero, add-assoc, add-sub-cancel-left, not-suc-le-zero}
+use native.Mathlib.Nat.{zero-mul, one-mul, suc-mul, add-zero, add-assoc, not-suc-le-zero}
 use native.Mathlib.Decide.{ℕ-discrete}
 use native.Mathlib.Numerals.{add-one}
 use native.Mathlib.Omega.{arith}
-use borrow.Rule.Slice.PartMut.{putMid, same-len-mid}
+use borrow.Rule.Slice.PartMut.{putMid}
 use lib.Bits.{bitXor}
 use lib.Dec.{eqb}
-use lib.ListN.{length, take, drop, getD, set, length-set, length-drop, drop-of-length-le}
-use lib.Seq.{length-take-le, getD-take, getD-drop, ext-getD, take-at, drop-at, drop-drop, getD-set-same, getD-set-other}
+use lib.ListN.{length, take, drop, getD, set, length-set, length-drop}
+use lib.Seq.{length-take-le, getD-take, getD-drop, ext-getD, getD-set-same, getD-set-other}
 use Rattle.laws.specs.working.Bits.{bitAt}
 use Rattle.laws.proofs.Bits.{bit-at-lt}
 use Rattle.laws.specs.Digits.{digits}
@@ -24,7 +24,8 @@ use Rattle.line.specs.Encoding.{messageSize, encodeLine}
 use Rattle.array.specs.Arrays.{line, lines}
 use Rattle.array.specs.working.EncodedRows.{EncodedRows, rowWord}
 use Rattle.laws.specs.working.Sums.{xorTo}
-use Rattle.array.proofs.ArrayLaws.{Even, line-at, line-cells, length-line, length-lines, line-room}
+use Rattle.array.proofs.ArrayLaws.{Even, line-at, line-cells, length-line, line-room}
+use Rattle.array.proofs.WrittenLines.{Lining, part-at, lining-start, lining-room, lining-part, lining-put, lining-all}
 use Rattle.line.proofs.Bounds.{square-le, message-le}
 use Rattle.laws.proofs.DigitSums.{digits-length}
 use Rattle.laws.proofs.Linear.{to-last, digits-at}
@@ -67,7 +68,7 @@ module _ {d : Degree} {k : ℕ} {m ws₀ ws : List ℕ} {a at : ℕ} (w : Encodi
 
   module _ (h : a < k) where
     encoding-part : take (at + k - at) (drop at m) ≡ line k m a
-    encoding-part = ap₂ (λ (x y : ℕ). take x (drop y m)) (add-sub-cancel-left at k) (w .place)
+    encoding-part = part-at at k m (w .place)
 
     -- there is a word for the row
     pub encoding-word : length ws₀ ≡ 64 → a < length ws
@@ -135,54 +136,6 @@ module _ {word : ℕ} {row₀ row : List ℕ} {j : ℕ} (w : Writing word row₀
       ext-getD 0 row (digits (length row₀) word) (w .long ∙ sym (digits-length (length row₀) word))
       (λ i q. w .cells i (omega arith) ∙ sym (digits-at (length row₀) word i (omega (arith, w .long))))
 
--- ---- lines written, a line a turn: of k lines of n cells the first i are new, the others as they were
-
-pub record Lining (n : ℕ) (g : ℕ → List ℕ) (k : ℕ) (old new : List ℕ) (i at : ℕ) : Type 0 where
-  pub low : i ≤ k
-  pub place : at ≡ i * n
-  pub long : length new ≡ k * n
-  pub so-far : new ≡ lines g i ++ drop (i * n) old
-
-module _ {n : ℕ} {g : ℕ → List ℕ} {k : ℕ} {old : List ℕ} where
-  pub lining-start : length old ≡ k * n → Lining n g k old old 0 0
-  unfolding lines
-  lining-start l = record {
-    low = omega arith;
-    place = sym (zero-mul n);
-    long = l;
-    so-far = ap (λ (x : ℕ). drop x old) (sym (zero-mul n));
-  }
-
-  module _ {new : List ℕ} {i at : ℕ} (w : Lining n g k old new i at) where
-    -- line i lies within the array
-    pub lining-room : i < k → at + n ≤ k * n
-    lining-room h = omega (arith, w .place, line-room k n i h)
-
-    pub lining-length : i < k → length (take (at + n - at) (drop at new)) ≡ n
-    lining-length h =
-        ap (λ (x : ℕ). length (take x (drop at new))) (add-sub-cancel-left at n)
-        ∙ length-take-le n (drop at new) (rw length-drop (omega (arith, w .long, lining-room h)))
-
-    -- what is put into the place of line i, which comes back between the parts that were not lent
-    pub lining-next : Even n g k → i < k → (y : List ℕ) → y ≡ g i → Lining n g k old (putMid at (at + n - at) new y) (i + 1) (at + n)
-    unfolding lines
-    lining-next even h y e = record {
-      low = omega arith;
-      place = omega (arith, w .place, suc-mul i n);
-      long = same-len-mid at (at + n - at) new y (ap length e ∙ even i h ∙ sym (lining-length h)) ∙ w .long;
-      so-far =
-          let front : length (lines g i) ≡ at = length-lines n g i (λ j q. even j (omega arith)) ∙ sym (w .place) in
-          let next : i * n + n ≡ suc i * n = sym (suc-mul i n) in
-          rw (w .so-far, e, add-sub-cancel-left at n, take-at (lines g i) (drop (i * n) old) at front, drop-at (lines g i) (drop (i * n) old) at front, drop-drop n (i * n) old, next, add-one i)
-          (sym (append-assoc (lines g i) (g i) (drop (suc i * n) old)));
-    }
-
-    pub lining-end : length old ≡ k * n → k ≤ i → new ≡ lines g k
-    lining-end l h =
-        let e : i ≡ k = omega (arith, w .low) in
-        w .so-far ∙ ap (λ (x : ℕ). lines g x ++ drop (x * n) old) e
-        ∙ ap (λ (x : List ℕ). lines g k ++ x) (drop-of-length-le old {i = k * n} (omega arith)) ∙ append-nil (lines g k)
-
 -- ---- message cells copied out of an array, a row a turn
 
 -- k cells from p on of row p + i of an array of n by n cells
@@ -194,7 +147,7 @@ pub record Taking (n k p : ℕ) (a old new : List ℕ) (i from to : ℕ) : Type 
   pub small : n ≤ 64
   pub whole : length a ≡ n * n
   pub source : from ≡ (p + i) * n + p
-  pub lining : Lining k (inner n k p a) k old new i to
+  pub lining : Lining k (inner n k p a) k 0 old new i to
 
 -- the cells as they stand in the array
 inner-part : (n k p : ℕ) (a : List ℕ) (i : ℕ) → p + k ≤ n → i < k → length a ≡ n * n
@@ -222,7 +175,7 @@ taking-start n k p a old r s l m = record {
   small = s;
   whole = l;
   source = ap (λ (x : ℕ). x * n + p) (sym (add-zero p));
-  lining = lining-start m;
+  lining = lining-start (inner-length n k p a r l) (omega arith);
 }
 
 module _ {n k p : ℕ} {a old new : List ℕ} {i from to : ℕ} (w : Taking n k p a old new i from to) (h : i < k) where
@@ -237,11 +190,10 @@ module _ {n k p : ℕ} {a old new : List ℕ} {i from to : ℕ} (w : Taking n k 
       (omega (arith, taking-source, square-le n (w .small)), omega (arith, lining-room (w .lining) h, square-le k l))
 
   source-part : take (from + k - from) (drop from a) ≡ inner n k p a i
-  source-part =
-      ap₂ (λ (x y : ℕ). take x (drop y a)) (add-sub-cancel-left from k) (w .source) ∙ inner-part n k p a i (w .room) h (w .whole)
+  source-part = part-at from k a (w .source) ∙ inner-part n k p a i (w .room) h (w .whole)
 
   pub taking-part : length (take (from + k - from) (drop from a)) ≡ length (take (to + k - to) (drop to new))
-  taking-part = ap length source-part ∙ inner-length n k p a (w .room) (w .whole) i h ∙ sym (lining-length (w .lining) h)
+  taking-part = ap length source-part ∙ w .lining .even i h ∙ sym (lining-part (w .lining) h)
 
   pub taking-next : (y : List ℕ) → y ≡ take (from + k - from) (drop from a)
       → Taking n k p a old (putMid to (to + k - to) new y) (i + 1) (from + n) (to + k)
@@ -250,9 +202,9 @@ module _ {n k p : ℕ} {a old new : List ℕ} {i from to : ℕ} (w : Taking n k 
     small = w .small;
     whole = w .whole;
     source = omega (arith, w .source, suc-mul (p + i) n, next);
-    lining = lining-next (w .lining) (inner-length n k p a (w .room) (w .whole)) h y (e ∙ source-part);
+    lining = lining-put (w .lining) h y (e ∙ source-part);
   }
 
 pub taking-end : {n k p : ℕ} {a old new : List ℕ} {i from to : ℕ} → Taking n k p a old new i from to → length old ≡ k * k → k ≤ i
     → new ≡ lines (inner n k p a) k
-taking-end w l h = lining-end (w .lining) l h
+taking-end w = lining-all (w .lining)

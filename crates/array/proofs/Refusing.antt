@@ -4,7 +4,7 @@ use mathlib.Core.Path.{_≡_, refl, sym, ap, _∙_}
 use mathlib.Core.Bool.{Bool, true, false, not, _||_}
 use mathlib.Core.List.{List, [], _∷_}
 use Prim.Native.Nat.{ℕ, suc, _+_, _-_, _*_, _^_, _<_, _≤_}
-use native.Mathlib.Nat.{add-sub-cancel-left, mul-le-mul}
+use native.Mathlib.Nat.{mul-le-mul}
 use native.Mathlib.Omega.{arith}
 use borrow.Author.Tests.{eqb-false, ltb-false, leb-false}
 use lib.Dec.{eqb, ltb, leb}
@@ -24,6 +24,7 @@ use Rattle.array.specs.Arrays.{line}
 use Rattle.array.specs.working.Steps.{IsArray}
 use Rattle.array.specs.Refusals.{messageCells, encodeTests, extractTests, rowTests, decodeTests}
 use Rattle.array.proofs.ArrayLaws.{line-room}
+use Rattle.array.proofs.WrittenLines.{part-at}
 
 -- ---- k by the degree that a number names
 
@@ -98,7 +99,7 @@ row-room d index {n} e h =
     (rw e (line-room (size d) (size d) index h), square-le (size d) (size-le d refl))
 
 pub row-part : (a : List ℕ) (index : ℕ) {n m : ℕ} → n ≡ m → take (index * n + n - index * n) (drop (index * n) a) ≡ line m a index
-row-part a index {n} e = ap (λ (x : ℕ). take x (drop (index * n) a)) (add-sub-cancel-left (index * n) n) ∙ ap (λ (x : ℕ). line x a index) e
+row-part a index {n} e = part-at (index * n) n a refl ∙ ap (λ (x : ℕ). line x a index) e
 
 -- ---- decode
 

@@ -1,15 +1,16 @@
 -- Writing into a lent slice, byte after byte and text after text.
 -- Assumes nothing.
 use mathlib.Core.Path.{_≡_, refl, sym, ap, ap₂, _∙_}
-use mathlib.Core.List.{List, [], _∷_, _++_, append-assoc, append-nil, map, map-append}
+use mathlib.Core.List.{List, [], _∷_, _++_, map, map-append}
 use Prim.Native.Nat.{ℕ, _+_, _-_, _*_, _<_, _≤_}
-use native.Mathlib.Nat.{add-zero, zero-mul, suc-mul, add-sub-cancel-left}
+use native.Mathlib.Nat.{add-zero, zero-mul}
 use native.Mathlib.Numerals.{add-one}
 use native.Mathlib.Omega.{arith}
-use lib.ListN.{length, take, drop, getD, set, length-map, length-append, length-drop, take-append-drop, drop-of-length-le}
-use lib.Seq.{length-take-le, set-split, take-at, drop-at, drop-drop, take-suc, take-all}
+use lib.ListN.{length, take, drop, getD, set, length-map, length-append, length-drop, take-append-drop}
+use lib.Seq.{length-take-le, set-split, take-suc, take-all}
 use Rattle.array.specs.Arrays.{line, lines}
 use Rattle.array.proofs.ArrayLaws.{Even, line-room, length-line, length-lines}
+use Rattle.array.proofs.WrittenLines.{written, written-length, written-then, written-all, Lining, lining-start, lining-next, lining-end}
 use Rattle.text.specs.Text.{charOf, lineText}
 use Rattle.text.specs.Writing.{Wrote}
 
@@ -19,29 +20,26 @@ wrote-none old at h = record { place = sym (add-zero at); within = h; bytes = sy
 pub wrote-one : (old : List ℕ) (at v : ℕ) → at < length old → Wrote old at (v ∷ []) (set old at v) (at + 1)
 wrote-one old at v h = record { place = refl; within = omega arith; bytes = rw (add-one at) (set-split old at v h) }
 
+pub written-wrote : (old : List ℕ) (at : ℕ) (text : List ℕ) {new : List ℕ} {next : ℕ} → next ≡ at + length text → next ≤ length old
+    → new ≡ written old at text → Wrote old at text new next
+written-wrote old at text p h e = record { place = p; within = h; bytes = e ∙ ap (λ (x : ℕ). take at old ++ (text ++ drop x old)) (sym p) }
+
+pub wrote-is : {old : List ℕ} {at : ℕ} {text new : List ℕ} {next : ℕ} → Wrote old at text new next → new ≡ written old at text
+wrote-is {old} {at} {text} w = w .bytes ∙ ap (λ (x : ℕ). take at old ++ (text ++ drop x old)) (w .place)
+
 module _ {old : List ℕ} {at : ℕ} {text new : List ℕ} {next : ℕ} (w : Wrote old at text new next) where
+  wrote-room : at + length text ≤ length old
+  wrote-room = omega (arith, w .place, w .within)
+
   -- the slice keeps its length
   pub wrote-length : length new ≡ length old
-  wrote-length =
-      ap length (w .bytes) ∙ length-append (take at old) (text ++ drop next old)
-      ∙ omega (arith, w .place, w .within, length-append text (drop next old), length-drop next old, length-take-le at old (omega (arith, w .place, w .within)))
+  wrote-length = ap length (wrote-is w) ∙ written-length old at text wrote-room
 
   -- two texts, one after the other
   pub wrote-then : {more end : List ℕ} {last : ℕ} → Wrote new next more end last → Wrote old at (text ++ more) end last
-  wrote-then {more} {end} {last} v =
-      let front : length (take at old ++ text) ≡ next =
-      length-append (take at old) text ∙ omega (arith, w .place, w .within, length-take-le at old (omega (arith, w .place, w .within))) in
-      let split : new ≡ (take at old ++ text) ++ drop next old = w .bytes ∙ sym (append-assoc (take at old) text (drop next old)) in
-      let low : take next new ≡ take at old ++ text = ap (take next) split ∙ take-at (take at old ++ text) (drop next old) next front in
-      let back : drop next new ≡ drop next old = ap (drop next) split ∙ drop-at (take at old ++ text) (drop next old) next front in
-      let high : drop last new ≡ drop last old =
-      ap (λ (x : ℕ). drop x new) (v .place) ∙ sym (drop-drop (length more) next new) ∙ ap (drop (length more)) back
-      ∙ drop-drop (length more) next old ∙ ap (λ (x : ℕ). drop x old) (sym (v .place)) in
-      record {
-        place = omega (arith, v .place, w .place, length-append text more);
-        within = omega (arith, v .within, wrote-length);
-        bytes = v .bytes ∙ rw (low, high, append-assoc, append-assoc);
-      }
+  wrote-then {more} v =
+      written-wrote old at (text ++ more) (omega (arith, v .place, w .place, length-append text more)) (omega (arith, v .within, wrote-length))
+      (wrote-is v ∙ ap₂ (λ (x : List ℕ) (y : ℕ). written x y more) (wrote-is w) (w .place) ∙ written-then old at text wrote-room more)
 
 -- a list, cell after cell, each by a rule
 pub wrote-map : (f : ℕ → ℕ) (l : List ℕ) {old mid new : List ℕ} {at j p q : ℕ} → Wrote old at (map f (take j l)) mid p → j < length l
@@ -60,49 +58,35 @@ wrote-end f l {old} {new} {at} {j} {next} w h = rw (take-all j l h) at w
 
 -- a slice that is written from end to end
 pub wrote-all : {old text new : List ℕ} {next : ℕ} → Wrote old 0 text new next → length text ≡ length old → new ≡ text
-wrote-all {old} {text} {new} {next} w e =
-    w .bytes ∙ ap (λ (x : List ℕ). text ++ x) (drop-of-length-le old {i = next} (omega (arith, w .place))) ∙ append-nil text
+wrote-all {old} {text} w e = wrote-is w ∙ written-all old text e
 
--- ---- lines, line after line: the first i of n lines are written, each from its place in a source with s bytes a line
+-- ---- lines, line after line: the first i of n lines of k bytes are written, each from its place in a source with s bytes a line
 
-pub record Lined (s : ℕ) (g : ℕ → List ℕ) (n : ℕ) (old : List ℕ) (at : ℕ) (new : List ℕ) (next from i : ℕ) : Type 0 where
-  pub low : i ≤ n
+pub record Lined (s k : ℕ) (g : ℕ → List ℕ) (n : ℕ) (old : List ℕ) (at : ℕ) (new : List ℕ) (next from i : ℕ) : Type 0 where
   pub source : from ≡ i * s
-  pub wrote : Wrote old at (lines g i) new next
+  pub lining : Lining k g n at old new i next
 
-pub lined-start : (s : ℕ) (g : ℕ → List ℕ) (n : ℕ) (old : List ℕ) (at : ℕ) → at ≤ length old → Lined s g n old at old at 0 0
-unfolding lines
-lined-start s g n old at h = record { low = omega arith; source = sym (zero-mul s); wrote = wrote-none old at h }
+pub lined-start : (s k : ℕ) (g : ℕ → List ℕ) (n : ℕ) (old : List ℕ) (at : ℕ) → Even k g n → at + n * k ≤ length old → Lined s k g n old at old at 0 0
+lined-start s k g n old at even h = record { source = sym (zero-mul s); lining = lining-start even h }
 
-module _ {s : ℕ} {g : ℕ → List ℕ} {n : ℕ} {old : List ℕ} {at : ℕ} {new : List ℕ} {next from i : ℕ} (w : Lined s g n old at new next from i) where
-  -- the source's part for line i
-  pub lined-part : (k : ℕ) (l : List ℕ) → take (from + k - from) (drop from l) ≡ take k (drop (i * s) l)
-  lined-part k l = ap₂ (λ (x y : ℕ). take x (drop y l)) (add-sub-cancel-left from k) (w .source)
-
-  -- which lies within the source
+module _ {s k : ℕ} {g : ℕ → List ℕ} {n : ℕ} {old : List ℕ} {at : ℕ} {new : List ℕ} {next from i : ℕ} (w : Lined s k g n old at new next from i) where
+  -- the source's part for line i lies within the source
   pub lined-source : i < n → from + s ≤ n * s
   lined-source h = omega (arith, w .source, line-room n s i h)
 
-  pub lined-part-length : (k : ℕ) (l : List ℕ) → i < n → k ≤ s → length l ≡ n * s → length (take (from + k - from) (drop from l)) ≡ k
-  lined-part-length k l h r e =
-      rw (add-sub-cancel-left from k) (length-take-le k (drop from l) (rw length-drop (omega (arith, lined-source h))))
-
-  -- there is room for line i
-  pub lined-room : (k : ℕ) → Even k g n → i < n → at + n * k ≤ length old → next + k ≤ length new
-  lined-room k even h r =
-      omega (arith, w .low, w .wrote .place, wrote-length (w .wrote), length-lines k g i (λ j q. even j (omega (arith, w .low))), line-room n k i h)
-
   pub lined-next : {new′ : List ℕ} {next′ from′ : ℕ} → i < n → Wrote new next (g i) new′ next′ → from′ ≡ from + s
-      → Lined s g n old at new′ next′ from′ (i + 1)
-  unfolding lines
+      → Lined s k g n old at new′ next′ from′ (i + 1)
   lined-next h v e = record {
-    low = omega arith;
-    source = omega (arith, w .source, suc-mul i s, ap (λ (x : ℕ). x * s) (add-one i));
-    wrote = rw (add-one i) (wrote-then (w .wrote) v);
+    source = omega (arith, w .source);
+    lining = rw (v .place, w .lining .even i h) (lining-next (w .lining) h (wrote-is v));
   }
 
   pub lined-end : n ≤ i → Wrote old at (lines g n) new next
-  lined-end h = let e : i ≡ n = omega (arith, w .low) in rw e at (w .wrote)
+  lined-end h =
+      let e : i ≡ n = omega (arith, w .lining .low) in
+      let long = length-lines k g n (w .lining .even) in
+      let last : next ≡ at + n * k = w .lining .place ∙ ap (λ (x : ℕ). at + x * k) e in
+      written-wrote old at (lines g n) (omega (arith, last, long)) (omega (arith, last, w .lining .room)) (lining-end (w .lining) h)
 
 -- each line that is read has n cells, and each that is printed n characters and a newline
 pub cells-even : (f : ℕ → ℕ) (n : ℕ) (t : List ℕ) → length t ≡ n * (n + 1) → Even n (λ i. map f (take n (drop (i * (n + 1)) t))) n

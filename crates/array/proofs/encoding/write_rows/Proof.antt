@@ -7,18 +7,18 @@ use Rattle.laws.specs.Digits.{digits}
 use Rattle.array.specs.working.EncodedRows.{rowWord}
 use Rattle.line.proofs.Bounds.{square-le}
 use Rattle.laws.proofs.DigitSums.{digits-length}
-use Rattle.array.proofs.Loops.{Lining, lining-start, lining-room, lining-length, lining-next, lining-end}
+use Rattle.array.proofs.WrittenLines.{Lining, lining-start, lining-length, lining-room, lining-free, lining-part, lining-put, lining-all}
 use Rattle.array.proofs.encoding.write_rows.Statement.{statement}
 use Rattle.array.proofs.encoding.write_rows.Tie as tie
 
 abbrev Inv-loop : tie.InvT-loop
-Inv-loop n k units words cells₀ i₀ at₀ cells i at = Lining n (λ j. digits n (rowWord units words k j)) n cells₀ cells i at
+Inv-loop n k units words cells₀ i₀ at₀ cells i at = Lining n (λ j. digits n (rowWord units words k j)) n 0 cells₀ cells i at
 
 abbrev μ-loop : tie.MeasureT-loop
 μ-loop n k units words cells₀ i₀ at₀ cells i at = n - i
 
 loop-holds : tie.Need-loop-holds Inv-loop μ-loop
-loop-holds c = lining-start (c .before .before .pre .3)
+loop-holds c = lining-start (λ j z. digits-length _ _) (omega (arith, c .before .before .pre .3))
 
 add-end : tie.Need-add-end Inv-loop μ-loop
 add-end c =
@@ -39,13 +39,12 @@ part-write-row-start : tie.Need-part-write-row-start Inv-loop μ-loop
 part-write-row-start c = omega arith
 
 part-write-row-end : tie.Need-part-write-row-end Inv-loop μ-loop
-part-write-row-end c =
-    omega (arith, lining-room (c .before .before .loop .inv) (c .before .loop-test .taken))
+part-write-row-end c = lining-free (c .before .before .loop .inv) (c .before .loop-test .taken)
 
 write-row-requires : tie.Need-write-row-requires Inv-loop μ-loop
 write-row-requires c κs =
     let q = c .before .before .before in
-    omega (arith, lining-length (q .loop .inv) (c .before .before .loop-test .taken), q .before .before .before .pre .2)
+    omega (arith, lining-part (q .loop .inv) (c .before .before .loop-test .taken), q .before .before .before .pre .2)
 
 add-i : tie.Need-add-i Inv-loop μ-loop
 add-i c = omega arith
@@ -58,13 +57,13 @@ loop-again c =
     let q = c .before .before in
     let w = q .before .before .before .before .loop .inv in
     let h = q .before .before .before .loop-test .taken in
-    lining-next w (λ j z. digits-length _ _) h _ (q .write-row .ensures ∙ ap₂ digits (lining-length w h) (q .before .before .row-word .ensures))
+    lining-put w h _ (q .write-row .ensures ∙ ap₂ digits (lining-part w h) (q .before .before .row-word .ensures))
 
 same-length : tie.Need-same-length Inv-loop μ-loop
-same-length c = omega (arith, c .before .loop .inv .long, c .before .before .before .before .pre .3)
+same-length c = lining-length (c .before .loop .inv)
 
 returns : tie.Need-returns Inv-loop μ-loop
-returns c = lining-end (c .before .loop .inv) (c .before .before .before .before .pre .3) (c .loop-test .left)
+returns c = lining-all (c .before .loop .inv) (c .before .before .before .before .pre .3) (c .loop-test .left)
 
 pub write-rows-spec : {M : Type 1} → statement M
 write-rows-spec =

@@ -6,7 +6,8 @@ use native.Mathlib.Omega.{arith}
 use borrow.Author.Needs.{needs}
 use Rattle.array.specs.Encoding.{extracted}
 use Rattle.line.proofs.Bounds.{product-le, size-le, room-le}
-use Rattle.array.proofs.Loops.{Taking, taking-start, taking-source, taking-fits, taking-part, taking-next, taking-end, lining-room}
+use Rattle.array.proofs.Loops.{Taking, taking-start, taking-source, taking-fits, taking-part, taking-next, taking-end}
+use Rattle.array.proofs.WrittenLines.{lining-length, lining-free}
 use Rattle.array.proofs.extraction.extract_message.Statement.{statement}
 use Rattle.array.proofs.extraction.extract_message.Tie as tie
 
@@ -81,7 +82,7 @@ part-copy-cells-end-2 : tie.Need-part-copy-cells-end-2 Inv-loop μ-loop
 part-copy-cells-end-2 c =
     let w = c .before .before .loop .inv in
     let h = c .before .loop-test .taken in
-    omega (arith, lining-room (w .lining) h, w .lining .long)
+    lining-free (w .lining) h
 
 copy-cells-requires : tie.Need-copy-cells-requires Inv-loop μ-loop
 copy-cells-requires c κs = sym (taking-part (c .before .before .before .loop .inv) (c .before .before .loop-test .taken))
@@ -110,10 +111,7 @@ loop-again c =
     taking-next (q .before .loop .inv) (q .loop-test .taken) _ (c .before .before .copy-cells .ensures)
 
 same-length : tie.Need-same-length Inv-loop μ-loop
-same-length c =
-    let q = c .before .before in
-    let k = q .before .message-cells .ensures in
-    c .before .loop .inv .lining .long ∙ sym (q .before .before .before .before .before .pre .1 ∙ ap₂ _*_ (sym k) (sym k))
+same-length c = lining-length (c .before .loop .inv .lining)
 
 returns : tie.Need-returns Inv-loop μ-loop
 unfolding extracted

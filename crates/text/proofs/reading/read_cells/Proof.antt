@@ -7,19 +7,22 @@ use native.Mathlib.Omega.{arith}
 use lib.ListN.{take, drop}
 use Rattle.text.specs.Text.{cellOf, cellsOf}
 use Rattle.array.proofs.ArrayLaws.{length-lines}
+use Rattle.array.proofs.WrittenLines.{part-at, part-length, lining-length, lining-free}
 use Rattle.text.proofs.SheetLaws.{room-le}
-use Rattle.text.proofs.WritingLaws.{Lined, lined-start, lined-part, lined-source, lined-part-length, lined-room, lined-next, lined-end, wrote-length, wrote-all, cells-even}
+use Rattle.text.proofs.WritingLaws.{Lined, lined-start, lined-source, lined-next, lined-end, wrote-all, cells-even}
 use Rattle.text.proofs.reading.read_cells.Statement.{statement}
 use Rattle.text.proofs.reading.read_cells.Tie as tie
 
 abbrev Inv-loop : tie.InvT-loop
-Inv-loop n text cells₀ next₀ from₀ i₀ cells next from i = Lined (n + 1) (λ i. map cellOf (take n (drop (i * (n + 1)) text))) n cells₀ 0 cells next from i
+Inv-loop n text cells₀ next₀ from₀ i₀ cells next from i = Lined (n + 1) n (λ i. map cellOf (take n (drop (i * (n + 1)) text))) n cells₀ 0 cells next from i
 
 abbrev μ-loop : tie.MeasureT-loop
 μ-loop n text cells₀ next₀ from₀ i₀ cells next from i = n - i
 
 loop-holds : tie.Need-loop-holds Inv-loop μ-loop
-loop-holds c = lined-start _ _ _ _ _ (omega arith)
+loop-holds c =
+    let s = c .before .before in
+    lined-start _ _ _ _ _ _ (cells-even cellOf (s .args .n) (s .args .text .now) (s .pre .1)) (omega (arith, s .pre .2))
 
 add-end : tie.Need-add-end Inv-loop μ-loop
 add-end c =
@@ -43,7 +46,8 @@ put-turned-requires c κs =
     let s = q .before .before .before in
     let h = c .before .before .loop-test .taken in
     let n = s .args .n in
-    omega (arith, lined-part-length (q .loop .inv) n (s .args .text .now) h (omega arith) (s .pre .1), lined-room (q .loop .inv) n (cells-even cellOf n (s .args .text .now) (s .pre .1)) h (omega (arith, s .pre .2)))
+    let w = q .loop .inv in
+    omega (arith, part-length (q .loop .from) n (s .args .text .now) (omega (arith, lined-source w h, s .pre .1)), lining-free (w .lining) h)
 
 add-from : tie.Need-add-from Inv-loop μ-loop
 add-from c =
@@ -62,10 +66,10 @@ loop-again c =
     let q = c .before .before .before .before .before .before in
     let s = q .before .before .before in
     let w = q .loop .inv in
-    lined-next w (c .before .before .before .before .before .loop-test .taken) (rw (← lined-part w (s .args .n) (s .args .text .now)) (c .before .before .put-turned .ensures)) (omega arith)
+    lined-next w (c .before .before .before .before .before .loop-test .taken) (rw (← part-at _ (s .args .n) (s .args .text .now) (w .source)) (c .before .before .put-turned .ensures)) (omega arith)
 
 same-length : tie.Need-same-length Inv-loop μ-loop
-same-length c = wrote-length (c .before .loop .inv .wrote)
+same-length c = lining-length (c .before .loop .inv .lining)
 
 returns : tie.Need-returns Inv-loop μ-loop
 unfolding cellsOf

@@ -4,19 +4,22 @@ use Prim.Native.Nat.{_+_, _-_}
 use mathlib.Core.Path.{refl}
 use native.Mathlib.Omega.{arith}
 use Rattle.array.specs.Arrays.{line}
+use Rattle.array.proofs.WrittenLines.{part-at, part-length, lining-length, lining-free}
 use Rattle.text.specs.Text.{lineText, arrayText}
-use Rattle.text.proofs.WritingLaws.{Lined, lined-start, lined-part, lined-source, lined-part-length, lined-room, lined-next, lined-end, wrote-length, lines-even}
+use Rattle.text.proofs.WritingLaws.{Lined, lined-start, lined-source, lined-next, lined-end, lines-even}
 use Rattle.text.proofs.writing.put_lines.Statement.{statement}
 use Rattle.text.proofs.writing.put_lines.Tie as tie
 
 abbrev Inv-loop : tie.InvT-loop
-Inv-loop n cells at output₀ next₀ from₀ i₀ output next from i = Lined n (λ i. lineText (line n cells i)) n output₀ at output next from i
+Inv-loop n cells at output₀ next₀ from₀ i₀ output next from i = Lined n (n + 1) (λ i. lineText (line n cells i)) n output₀ at output next from i
 
 abbrev μ-loop : tie.MeasureT-loop
 μ-loop n cells at output₀ next₀ from₀ i₀ output next from i = n - i
 
 loop-holds : tie.Need-loop-holds Inv-loop μ-loop
-loop-holds c = lined-start _ _ _ _ _ (omega arith)
+loop-holds c =
+    let s = c .before .before in
+    lined-start _ _ _ _ _ _ (lines-even (s .args .n) (s .args .cells .now) (s .pre .1)) (s .pre .2)
 
 add-end : tie.Need-add-end Inv-loop μ-loop
 add-end c =
@@ -40,7 +43,8 @@ put-line-requires c κs =
     let s = q .before .before .before in
     let h = c .before .before .loop-test .taken in
     let n = s .args .n in
-    omega (arith, lined-part-length (q .loop .inv) n (s .args .cells .now) h (omega arith) (s .pre .1), lined-room (q .loop .inv) (n + 1) (lines-even n (s .args .cells .now) (s .pre .1)) h (s .pre .2))
+    let w = q .loop .inv in
+    omega (arith, part-length (q .loop .from) n (s .args .cells .now) (omega (arith, lined-source w h, s .pre .1)), lining-free (w .lining) h)
 
 add-i : tie.Need-add-i Inv-loop μ-loop
 add-i c = omega arith
@@ -53,10 +57,10 @@ loop-again c =
     let q = c .before .before .before .before .before .before in
     let s = q .before .before .before in
     let w = q .loop .inv in
-    lined-next w (c .before .before .before .before .before .loop-test .taken) (rw (← lined-part w (s .args .n) (s .args .cells .now)) (c .before .before .put-line .ensures)) refl
+    lined-next w (c .before .before .before .before .before .loop-test .taken) (rw (← part-at _ (s .args .n) (s .args .cells .now) (w .source)) (c .before .before .put-line .ensures)) refl
 
 same-length : tie.Need-same-length Inv-loop μ-loop
-same-length c = wrote-length (c .before .loop .inv .wrote)
+same-length c = lining-length (c .before .loop .inv .lining)
 
 returns : tie.Need-returns Inv-loop μ-loop
 unfolding arrayText
