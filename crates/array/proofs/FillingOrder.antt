@@ -1,9 +1,9 @@
--- The order of the filling words: in a half line i takes word i, and an iteration's column half takes the n words after the row
--- half's. With an example in which two equal lines come out differently, for their words differ.
+-- The order of the filling words: an iteration's column half takes the n words after the row half's. With an example of a row half
+-- in which two equal lines come out differently, for their words differ.
 -- Assumes nothing.
 use mathlib.Core.Path.{_≡_, refl, ap, _∙_}
 use mathlib.Core.List.{List, _∷_, _++_}
-use Prim.Native.Nat.{ℕ, _+_, _*_, _^_, _<_}
+use Prim.Native.Nat.{ℕ, _+_, _^_, _<_}
 use native.Mathlib.Omega.{arith}
 use lib.ListN.{drop, getD, replicate}
 use lib.Seq.{getD-drop}
@@ -12,35 +12,15 @@ use Rattle.degree.specs.declared.Degree.the-variants.{Four}
 use Rattle.degree.specs.Degree.{size}
 use Rattle.line.specs.Bounded.{bounded}
 use Rattle.line.specs.Decoding.{messages}
-use Rattle.line.proofs.Examples.{zeros, G, P7, P7-messages, P8-messages}
-use Rattle.line.proofs.LineLaw.{messages-line}
 use Rattle.line.specs.Refusals.{atMost}
+use Rattle.line.proofs.Examples.{zeros, G, P7, P7-messages, P8-messages}
 use Rattle.line.proofs.Refusing.{at-most-small}
-use Rattle.array.specs.Arrays.{line, column, transpose}
+use Rattle.array.specs.Arrays.{line, column}
 use Rattle.array.specs.Halves.{rowHalf, columnHalf}
 use Rattle.array.specs.Plain.{plain}
 use Rattle.array.specs.working.Steps.{IsArray}
-use Rattle.array.proofs.ArrayLaws.{line-cells, line-lines, transpose-cells, transpose-transpose}
+use Rattle.array.proofs.HalfLines.{row-line-word, column-line-word}
 use Rattle.array.proofs.Theorem.{row-half-cells}
-
--- line i of a half by rows: the messages of line i, with filling word i
-pub row-line-word : (d : Degree) {m r : List ℕ} (w : List ℕ) → IsArray d m → IsArray d r → (i : ℕ) → i < size d
-    → line (size d) (rowHalf d m r w) i ≡ messages (bounded d) (line (size d) m i) (line (size d) r i) (getD w i 0)
-unfolding rowHalf
-row-line-word d {m} {r} w a b i h =
-    line-lines (size d) (λ i. messages (bounded d) (line (size d) m i) (line (size d) r i) (getD w i 0)) (size d) i
-    (λ k q. messages-line d (getD w k 0) (line-cells (size d) (size d) k a q) (line-cells (size d) (size d) k b q) .long) h
-
--- column j of a half by columns: the messages of column j, with filling word j
-pub column-line-word : (d : Degree) {m r : List ℕ} (w : List ℕ) → IsArray d m → IsArray d r → (j : ℕ) → j < size d
-    → column (size d) (columnHalf d m r w) j ≡ messages (bounded d) (column (size d) m j) (column (size d) r j) (getD w j 0)
-unfolding columnHalf
-column-line-word d {m} {r} w a b j h =
-    let n = size d in
-    let down : IsArray d (transpose n n m) = transpose-cells n n a in
-    let across : IsArray d (transpose n n r) = transpose-cells n n b in
-    ap (λ (x : List ℕ). line n x j) (transpose-transpose n n (rowHalf d (transpose n n m) (transpose n n r) w) (row-half-cells d (transpose n n m) (transpose n n r) w down across .long))
-    ∙ row-line-word d w down across j h
 
 -- an iteration
 pub one-iteration : (d : Degree) (m r w : List ℕ) → plain d 1 m r w ≡ columnHalf d (rowHalf d m r w) r (drop (size d) w)

@@ -26,14 +26,12 @@ use Rattle.array.specs.working.PackedRows.{withLine, Held, LineIn, LineP
 use Rattle.array.specs.Halves.{rowHalf, rowCount, columnHalf, columnCount}
 use Rattle.array.specs.working.Steps.{IsArray, StepDone}
 use Rattle.array.proofs.ArrayLaws.{Even, length-line, line-cells, lines-are}
+use Rattle.array.proofs.HalfLines.{sent}
 use Rattle.array.proofs.PackedLaws.{soFar, far-start, far-line, far-next, far-end, line-lent, line-back, next-place, row-room}
 
 -- ---- a half
 
--- line i after a half of m, with channel r and filling words w, and its count
-abbrev sent : Degree → List ℕ → List ℕ → List ℕ → ℕ → List ℕ
-sent d m r w i = messages (bounded d) (line (size d) m i) (line (size d) r i) (getD w i 0)
-
+-- the count of line i in a half of m, with channel r and filling words w
 abbrev messagesCount : Degree → List ℕ → List ℕ → List ℕ → ℕ → ℕ
 messagesCount d m r w i = countOf (bounded d) (line (size d) m i) (line (size d) r i) (getD w i 0)
 

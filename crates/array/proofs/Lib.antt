@@ -14,4 +14,5 @@ mod DecodeLaws
 pub mod Theorem
 pub mod SentArrays
 pub mod ClosedLaws
+pub mod HalfLines
 pub mod FillingOrder

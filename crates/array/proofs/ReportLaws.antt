@@ -2,9 +2,8 @@
 -- Assumes nothing.
 use mathlib.Core.Path.{_≡_, refl, sym, ap, ap₂, _∙_}
 use mathlib.Core.Bool.{Bool, true, false, _&&_}
-use mathlib.Core.Logic.{_⊎_, inl, inr, _≢_}
 use mathlib.Core.List.{List, [], _∷_, _++_}
-use Prim.Native.Nat.{ℕ, zero, suc, _+_, _*_, _<_, _≤_}
+use Prim.Native.Nat.{ℕ, _+_, _*_, _<_, _≤_}
 use native.Mathlib.Nat.{suc-mul, zero-mul, add-assoc, zero-add}
 use native.Mathlib.Numerals.{add-one}
 use native.Mathlib.Omega.{arith}
@@ -15,13 +14,12 @@ use Rattle.laws.specs.Tests.{every}
 use Rattle.laws.proofs.Tests.{every-next}
 use Rattle.degree.specs.declared.Degree.{Degree}
 use Rattle.degree.specs.Degree.{size}
-use Rattle.line.specs.Cells.{cell, bit, isErased, erasures}
+use Rattle.line.specs.Cells.{bit, isErased, erasures}
 use Rattle.line.specs.Codeword.{isCodeword}
 use Rattle.line.specs.working.Packed.{Packs, PacksWord}
 use Rattle.line.specs.declared.packed.Line.{Line}
 use Rattle.line.specs.declared.word.Word.{Word}
 use Rattle.line.specs.working.Word.{value}
-use Rattle.line.proofs.CellLaws.{erased-or-known}
 use Rattle.line.proofs.RowLaws.{size-room}
 use Rattle.array.specs.declared.report.Report.{Report}
 use Rattle.array.specs.Arrays.{line, transpose}
@@ -30,6 +28,7 @@ use Rattle.array.specs.Plain.{plain, plainCount, closed}
 use Rattle.array.specs.working.Steps.{StepDone}
 use Rattle.array.specs.working.Runs.{IsFull, Started, Told, DecodingDone}
 use Rattle.array.proofs.ArrayLaws.{line-cells, transpose-cells}
+use Rattle.array.proofs.ClosedLaws.{no-erasures}
 
 -- ---- erasures, a line a turn
 
@@ -95,17 +94,6 @@ testing-end {d} {rows} {all} {i} c e h m a k =
     rw z at (c .done m a k)
 
 -- ---- the state of an array
-
--- a list with no erasure is a word
-pub no-erasures : (m : List ℕ) → ((i : ℕ) → cell m i < 3) → erasures m ≡ 0 → (i : ℕ) → cell m i < 2
-unfolding erasures
-no-erasures [] h e i = omega arith
-no-erasures (c ∷ cs) h e zero = pick (erased-or-known c)
-  where
-    pick : ((c ≡ 2) × (bit (isErased c) ≡ 1)) ⊎ ((c ≢ 2) × (bit (isErased c) ≡ 0)) → c < 2
-    pick (inl p) = absurd (omega (arith, p .1, e))
-    pick (inr p) = omega (arith, h 0, p .0)
-no-erasures (c ∷ cs) h e (suc i) = no-erasures cs (λ j. h (suc j)) (omega arith) i
 
 -- with cells unsure it is open
 pub told-open : (d : Degree) {rows : List ℕ} {t k : ℕ} → ((m : List ℕ) → Held (size d) m rows → k ≡ erasures m) → (k ≡ 0 → ⊥)

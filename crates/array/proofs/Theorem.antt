@@ -16,17 +16,17 @@ use Rattle.line.specs.working.Packed.{IsLine}
 use Rattle.line.specs.Cells.{IsWord, erasures}
 use Rattle.line.specs.Codeword.{isCodeword}
 use Rattle.line.specs.Bounded.{bounded}
-use Rattle.line.specs.Decoding.{messages}
 use Rattle.line.specs.Clauses.{count}
 use Rattle.line.proofs.CellLaws.{word-known}
 use Rattle.line.proofs.Distances.{is-codeword}
 use Rattle.line.proofs.LineLaw.{messages-line, codeword-messages, received-messages}
 use Rattle.line.proofs.CountLaws.{count-le}
-use Rattle.array.specs.Arrays.{line, lines, transpose, column}
+use Rattle.array.specs.Arrays.{line, transpose, column}
 use Rattle.array.specs.Halves.{rowHalf, columnHalf, rowCount, columnCount}
 use Rattle.array.specs.Plain.{plain, plainCount, closed, RowCondition}
 use Rattle.array.specs.Encoding.{ProductCodeword}
-use Rattle.array.proofs.ArrayLaws.{Even, each-cell, line-at, line-cells, transpose-cells, length-transpose, transpose-transpose, length-lines, line-lines, lines-are}
+use Rattle.array.proofs.ArrayLaws.{each-cell, line-at, line-cells, transpose-cells, length-transpose, transpose-transpose, lines-are}
+use Rattle.array.proofs.HalfLines.{row-half-length, row-line-word}
 
 module _ (d : Degree) where
   -- n by n cells, each 0, 1 or 2
@@ -42,23 +42,14 @@ module _ (d : Degree) where
   -- ---- what halves and plain decodings keep: n by n cells, each 0, 1 or 2
 
   pub row-half-cells : (m r w : List ℕ) → Whole m → Whole r → Whole (rowHalf d m r w)
-  unfolding rowHalf
   row-half-cells m r w a b = record {
-    long = length-lines (size d) g (size d) even;
-    small = each-cell (λ x. x < 3) (size d) (size d) (lines g (size d)) (omega arith) (length-lines (size d) g (size d) even) small;
+    long = row-half-length d w a b;
+    small = each-cell (λ x. x < 3) (size d) (size d) (rowHalf d m r w) (omega arith) (row-half-length d w a b) small;
   }
     where
-      g : ℕ → List ℕ
-      g i = messages (bounded d) (line (size d) m i) (line (size d) r i) (getD w i 0)
-
-      made : (i : ℕ) → i < size d → IsLine (size d) (g i)
-      made i h = messages-line d (getD w i 0) (row-line a i h) (row-line b i h)
-
-      even : Even (size d) g (size d)
-      even i h = made i h .long
-
-      small : (i j : ℕ) → i < size d → j < size d → getD (lines g (size d)) (i * size d + j) 0 < 3
-      small i j p q = rw (← line-at (size d) (lines g (size d)) i j q, line-lines (size d) g (size d) i even p) (made i p .small j)
+      small : (i j : ℕ) → i < size d → j < size d → getD (rowHalf d m r w) (i * size d + j) 0 < 3
+      small i j p q =
+          rw (← line-at (size d) (rowHalf d m r w) i j q, row-line-word d w a b i p) (messages-line d (getD w i 0) (row-line a i p) (row-line b i p) .small j)
 
   pub column-half-cells : (m r w : List ℕ) → Whole m → Whole r → Whole (columnHalf d m r w)
   unfolding columnHalf

@@ -43,6 +43,14 @@ pub every-true : (f : ℕ → Bool) (n : ℕ) → ((k : ℕ) → k < n → f k �
 every-true f zero h = refl
 every-true f (suc n) h = ap₂ _&&_ (h n (le-refl (suc n))) (every-true f n (λ k l. h k (omega arith)))
 
+-- what a test that is true says of each
+pub every-each : (f : ℕ → Bool) (n : ℕ) → every f n ≡ true → (k : ℕ) → k < n → f k ≡ true
+every-each f n e k h = passed (f k) (every-at f n (subst T (sym e) tt) h)
+  where
+    passed : (b : Bool) → T b → b ≡ true
+    passed true t = refl
+    passed false t = absurd t
+
 -- the test passes at each list of n bits
 unfoldable pub everyBits : ℕ → (List ℕ → Bool) → Bool
 everyBits zero f = f []

@@ -11,12 +11,11 @@ use borrow.Author.Tests.{eq-eqb, ne-eqb}
 use lib.Dec.{eqb}
 use lib.ListN.{length, take, drop, getD, length-map, List·getD-append}
 use lib.Seq.{take-take, take-at, getD-at}
-use Rattle.laws.specs.Tests.{every}
+use Rattle.laws.proofs.Tests.{every-true}
 use Rattle.line.specs.Cells.{cell}
 use Rattle.line.specs.working.Packed.{IsLine}
 use Rattle.array.specs.Arrays.{line}
 use Rattle.array.proofs.ArrayLaws.{line-at, line-small, length-line, length-lines, line-lines, lines-are}
-use Rattle.laws.proofs.Tests.{every-true}
 use Rattle.text.specs.Text.{byte, placed, shaped, isKnown, known, cellOf, cellsOf, charOf, lineText, arrayText}
 use Rattle.text.proofs.WritingLaws.{lines-even}
 
