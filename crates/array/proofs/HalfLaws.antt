@@ -19,14 +19,13 @@ use Rattle.line.specs.working.Rows.{Updated}
 use Rattle.line.specs.working.SentRows.{SentRow}
 use Rattle.line.specs.declared.packed.Line.{Line}
 use Rattle.line.specs.declared.decoding.LineTally.{LineTally}
-use Rattle.line.proofs.LineLaw.{messages-line}
 use Rattle.line.proofs.RowLaws.{size-room, size-eights}
 use Rattle.array.specs.Arrays.{line, transpose}
 use Rattle.array.specs.working.PackedRows.{withLine, Held, LineIn, LinePut, RowsTurned}
 use Rattle.array.specs.Halves.{rowHalf, rowCount, columnHalf, columnCount}
 use Rattle.array.specs.working.Steps.{IsArray, StepDone}
-use Rattle.array.proofs.ArrayLaws.{Even, length-line, line-cells, lines-are}
-use Rattle.array.proofs.HalfLines.{sent}
+use Rattle.array.proofs.ArrayLaws.{Even, length-line, lines-are}
+use Rattle.array.proofs.HalfLines.{sent, sent-even}
 use Rattle.array.proofs.PackedLaws.{soFar, far-start, far-line, far-next, far-end, line-lent, line-back, next-place, row-room}
 
 -- ---- a half
@@ -50,7 +49,7 @@ half-start {d} {m} {r} w k a = record { source = k .array; channel = a; cells = 
 module _ {d : Degree} {m r w s rows : List ℕ} {count i : ℕ} (k : HalfAt d m r w s rows count i) where
   module _ (h : i < size d) where
     even : Even (size d) (sent d m r w) i
-    even j q = messages-line d (getD w j 0) (line-cells (size d) (size d) j (k .source) (omega arith)) (line-cells (size d) (size d) j (k .channel) (omega arith)) .long
+    even j q = sent-even d w (k .source) (k .channel) j (omega arith)
 
     -- the line at hand is still m's
     half-line : line (size d) s i ≡ line (size d) m i

@@ -19,18 +19,19 @@ abbrev pub sent : Degree → List ℕ → List ℕ → List ℕ → ℕ → List
 sent d m r w i = messages (bounded d) (line (size d) m i) (line (size d) r i) (getD w i 0)
 
 module _ (d : Degree) {m r : List ℕ} (w : List ℕ) (a : IsArray d m) (b : IsArray d r) where
-  even : Even (size d) (sent d m r w) (size d)
-  even i h = messages-line d (getD w i 0) (line-cells (size d) (size d) i a h) (line-cells (size d) (size d) i b h) .long
-
-  pub row-half-length : length (rowHalf d m r w) ≡ size d * size d
-  unfolding rowHalf
-  row-half-length = length-lines (size d) (sent d m r w) (size d) even
+  -- each is a line of n cells
+  pub sent-even : Even (size d) (sent d m r w) (size d)
+  sent-even i h = messages-line d (getD w i 0) (line-cells (size d) (size d) i a h) (line-cells (size d) (size d) i b h) .long
 
   -- line i of a half by rows
   pub row-line-word : (i : ℕ) → i < size d
       → line (size d) (rowHalf d m r w) i ≡ messages (bounded d) (line (size d) m i) (line (size d) r i) (getD w i 0)
   unfolding rowHalf
-  row-line-word i h = line-lines (size d) (sent d m r w) (size d) i even h
+  row-line-word i h = line-lines (size d) (sent d m r w) (size d) i sent-even h
+
+  pub row-half-length : length (rowHalf d m r w) ≡ size d * size d
+  unfolding rowHalf
+  row-half-length = length-lines (size d) (sent d m r w) (size d) sent-even
 
 -- column j of a half by columns
 pub column-line-word : (d : Degree) {m r : List ℕ} (w : List ℕ) → IsArray d m → IsArray d r → (j : ℕ) → j < size d
