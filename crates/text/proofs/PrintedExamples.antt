@@ -108,9 +108,9 @@ columns-counted : columnCount Four sent received (drop 16 (zeros Four)) ≡ 32
 unfolding columnCount rowCount sumTo count clause erasures byReach reach same agrees filled distance bounded within2 itself isCodeword sumOver ones transpose listFrom
 columns-counted = refl
 
-counted : plainCount Four 1 received received (zeros Four) ≡ 64
+all-counted : plainCount Four 1 received received (zeros Four) ≡ 64
 unfolding plainCount
-counted =
+all-counted =
     rw (first-half Four sent sent-codeword received received-array (zeros Four) near, rows-counted, columns-counted) refl
 
 taken : (refusal (sheetTests input) ≡ 0) × (named (firstLine input) ≡ Known Four)
@@ -121,4 +121,4 @@ pub whole-example : printed input ≡ output
 unfolding decodedText reportText numbersText numberText decimal decimalDigits arrayText lineText lines
 whole-example =
     sym (printed-taken input Four taken) ∙ ap (decodedText Four) cells-read
-    ∙ rw (decoded, counted, sent-known Four sent sent-codeword, sent-closed Four sent sent-codeword) refl
+    ∙ rw (decoded, all-counted, sent-known Four sent sent-codeword, sent-closed Four sent sent-codeword) refl
