@@ -26,7 +26,8 @@ use Rattle.array.specs.Halves.{rowHalf, rowCount, columnHalf, columnCoun
 use Rattle.array.specs.working.Steps.{IsArray, StepDone}
 use Rattle.array.proofs.ArrayLaws.{Even, length-line, lines-are}
 use Rattle.array.proofs.HalfLines.{sent, sent-even}
-use Rattle.array.proofs.PackedLaws.{soFar, far-start, far-line, far-next, far-end, line-lent, line-back, next-place, row-room}
+use Rattle.array.proofs.PackedLaws.{soFar, far-start, far-line, far-next, far-end, line-back, next-place, row-within}
+use Rattle.array.proofs.WrittenLines.{part-at}
 
 -- ---- a half
 
@@ -100,10 +101,10 @@ module _ {d : Degree} {m rows₀ channel w s rows : List ℕ} {count i at n : �
 
     -- the row lies within
     pub rows-room : at + n ≤ length s
-    rows-room = omega (arith, k .place, row-room (size d) i s (k .long) inside)
+    rows-room = omega (arith, k .place, row-within (size d) i s (k .long) inside)
 
     lent : take (at + n - at) (drop at s) ≡ line (size d) s i
-    lent = rw e (line-lent (size d) i at s (k .place))
+    lent = rw e (part-at at (size d) s (k .place))
 
     -- and is made of whole parts of eight cells
     pub rows-lent : length (take (at + n - at) (drop at s)) % 8 ≡ 0
@@ -187,10 +188,10 @@ module _ {m₀ old rows m : List ℕ} {i at n : ℕ} (k : Writing n m₀ old row
 
   -- the row that is lent lies within
   pub writing-room : i < n → at + n ≤ length m
-  writing-room h = omega (arith, k .place, row-room n i m square h)
+  writing-room h = omega (arith, k .place, row-within n i m square h)
 
   row-is : take (at + n - at) (drop at m) ≡ line n m i
-  row-is = line-lent n i at m (k .place)
+  row-is = part-at at n m (k .place)
 
   -- and is made of whole parts of eight cells
   pub writing-lent : (d : Degree) → n ≡ size d → i < n → length (take (at + n - at) (drop at m)) % 8 ≡ 0

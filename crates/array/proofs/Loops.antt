@@ -120,19 +120,19 @@ module _ (t ws : List ℕ) (i sum a : ℕ) (e : sum ≡ rowWord t ws a i) where
 
 -- ---- bits written into a row, a cell a turn
 
-pub record Writing (word : ℕ) (row₀ row : List ℕ) (j : ℕ) : Type 0 where
+pub record PutBits (word : ℕ) (row₀ row : List ℕ) (j : ℕ) : Type 0 where
   pub long : length row ≡ length row₀
   pub cells : (i : ℕ) → i < j → getD row i 0 ≡ bitAt word i
 
-pub writing-start : (word : ℕ) (row : List ℕ) → Writing word row row 0
-writing-start word row = record { long = refl; cells = λ i h. absurd (not-suc-le-zero h) }
+pub put-bits-start : (word : ℕ) (row : List ℕ) → PutBits word row row 0
+put-bits-start word row = record { long = refl; cells = λ i h. absurd (not-suc-le-zero h) }
 
-module _ {word : ℕ} {row₀ row : List ℕ} {j : ℕ} (w : Writing word row₀ row j) where
-  pub writing-next : j < length row → (x : ℕ) → x ≡ bitAt word j → Writing word row₀ (set row j x) (j + 1)
-  writing-next h x e = record { long = length-set row j x ∙ w .long; cells = put-next (λ i y. y ≡ bitAt word i) row j x h (w .cells) e }
+module _ {word : ℕ} {row₀ row : List ℕ} {j : ℕ} (w : PutBits word row₀ row j) where
+  pub put-bits-next : j < length row → (x : ℕ) → x ≡ bitAt word j → PutBits word row₀ (set row j x) (j + 1)
+  put-bits-next h x e = record { long = length-set row j x ∙ w .long; cells = put-next (λ i y. y ≡ bitAt word i) row j x h (w .cells) e }
 
-  pub writing-end : length row ≤ j → row ≡ digits (length row₀) word
-  writing-end h =
+  pub put-bits-end : length row ≤ j → row ≡ digits (length row₀) word
+  put-bits-end h =
       ext-getD 0 row (digits (length row₀) word) (w .long ∙ sym (digits-length (length row₀) word))
       (λ i q. w .cells i (omega arith) ∙ sym (digits-at (length row₀) word i (omega (arith, w .long))))
 

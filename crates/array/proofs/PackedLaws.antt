@@ -11,11 +11,12 @@ use native.Mathlib.Numerals.{add-one}
 use native.Mathlib.Omega.{arith}
 use native.Mathlib.Decide.{decLt, ℕ-discrete}
 use borrow.Rule.Slice.PartMut.{putMid}
-use lib.ListN.{length, take, drop, getD, set, length-append, length-drop, length-set, replicate, length-replicate, getD-replicate, List·getD-eq-default, drop-of-length-le}
+use lib.ListN.{length, take, drop, getD, set, length-append, length-drop, length-set, replicate, length-replicate, drop-of-length-le}
 use lib.Seq.{length-take-le, drop-drop, drop-at, take-at, take-take, take-add, drop-append-le, take-append-le, getD-take, getD-set-same, getD-set-other}
 use Rattle.degree.specs.declared.Degree.{Degree}
 use Rattle.degree.specs.Degree.{size}
 use Rattle.laws.specs.Bits.{bit}
+use Rattle.laws.proofs.Lists.{zeros-at}
 use Rattle.line.specs.working.Packed.{IsLine, isOne, packBy, Packs}
 use Rattle.line.specs.Cells.{isErased}
 use Rattle.line.specs.declared.packed.Line.{Line}
@@ -27,6 +28,7 @@ use Rattle.array.specs.Arrays.{line, lines}
 use Rattle.array.specs.working.PackedRows.{withLine, RowWords, Held, LineIn, LinePut, BlocksTurned, RowsTurned}
 use Rattle.array.specs.working.Steps.{IsArray}
 use Rattle.array.proofs.ArrayLaws.{Even, line-room, length-line, line-small, line-cells, transpose-cells, each-cell, line-at, length-lines, lines-are}
+use Rattle.array.proofs.WrittenLines.{part-at}
 use Rattle.array.proofs.WordLaws.{words-turned}
 
 -- ---- lines of parts
@@ -135,9 +137,6 @@ module _ (n i at : ℕ) (m : List ℕ) (e : at ≡ i * n) where
   same : at + n - at ≡ n
   same = omega arith
 
-  pub line-lent : take (at + n - at) (drop at m) ≡ line n m i
-  line-lent = rw (same, e)
-
   pub line-back : (y : List ℕ) → putMid at (at + n - at) m y ≡ withLine n m i y
   line-back y = rw (same, e)
 
@@ -146,8 +145,8 @@ module _ (n i at : ℕ) (m : List ℕ) (e : at ≡ i * n) where
   next-place = rw (add-one, suc-mul, ← e)
 
 -- row i lies within the array
-pub row-room : (n i : ℕ) (m : List ℕ) → length m ≡ n * n → i < n → i * n + n ≤ length m
-row-room n i m l h = omega (arith, line-room n n i h)
+pub row-within : (n i : ℕ) (m : List ℕ) → length m ≡ n * n → i < n → i * n + n ≤ length m
+row-within n i m l h = omega (arith, line-room n n i h)
 
 -- one word made another where one line is another
 words-put : (p : ℕ → Bool) (n i : ℕ) (m m′ : List ℕ) (before after : ℕ → ℕ) → RowWords p n m before → after i ≡ packBy p (line n m′ i)
@@ -182,7 +181,7 @@ held-put rows i l few n m y k h p = record {
     both = set one (64 + i) (value (l .erased))
 
     room : i * n + n ≤ length m
-    room = row-room n i m (k .array .long) h
+    room = row-within n i m (k .array .long) h
 
     here : y ≡ line n (withLine n m i y) i
     here = sym (put-same n i m y room (p .cells .long))
@@ -238,9 +237,6 @@ module _ (rows y : List ℕ) (long : length rows ≡ 128) (t : Turned (line 64 r
 abbrev blank : ℕ → List ℕ
 blank n = replicate (n * n) 0
 
-zero-at : (k i : ℕ) → _≡_ {A = ℕ} (getD (replicate k 0) i 0) 0
-zero-at k i = dite (decLt i k) (λ h. getD-replicate k i 0 0 h) (λ h. List·getD-eq-default (replicate k 0) 0 {n = i} (omega (arith, length-replicate {A = ℕ} k 0)))
-
 packBy-none : (p : ℕ → Bool) → p 0 ≡ false → (xs : List ℕ) → ((i : ℕ) → getD xs i 0 ≡ 0) → packBy p xs ≡ 0
 unfolding packBy
 packBy-none p z [] h = refl
@@ -250,14 +246,14 @@ packBy-none p z (x ∷ xs) h = ap₂ (λ (w : ℕ) (b : Bool). w * 2 + bit b) (p
 blank-held : (n : ℕ) → n ≤ 64 → Held n (blank n) (replicate 128 0)
 blank-held n few = record {
   room = few;
-  array = record { long = length-replicate {A = ℕ} (n * n) 0; small = λ i. rw (zero-at (n * n) i) (omega arith) };
+  array = record { long = length-replicate {A = ℕ} (n * n) 0; small = λ i. rw (zeros-at (n * n) i) (omega arith) };
   long = length-replicate {A = ℕ} 128 0;
-  ones = λ i h. zero-at 128 i ∙ sym (none isOne refl i);
-  erased = λ i h. zero-at 128 (64 + i) ∙ sym (none isErased refl i);
+  ones = λ i h. zeros-at 128 i ∙ sym (none isOne refl i);
+  erased = λ i h. zeros-at 128 (64 + i) ∙ sym (none isErased refl i);
 }
   where
     none : (p : ℕ → Bool) → p 0 ≡ false → (i : ℕ) → packBy p (line n (blank n) i) ≡ 0
-    none p z i = packBy-none p z (line n (blank n) i) (λ j. omega (arith, line-small 1 n (blank n) i (λ q. rw (zero-at (n * n) q) (omega arith)) j))
+    none p z i = packBy-none p z (line n (blank n) i) (λ j. omega (arith, line-small 1 n (blank n) i (λ q. rw (zeros-at (n * n) q) (omega arith)) j))
 
 -- the first i rows are packed; the words after them are 0
 pub record Packing (n : ℕ) (m rows : List ℕ) (i at : ℕ) : Type 0 where
@@ -278,11 +274,11 @@ module _ (d : Degree) {m rows : List ℕ} {i at n : ℕ} (a : IsArray d m) (k : 
 
   -- the row that is lent lies within
   pub packing-room : i < n → at + n ≤ length m
-  packing-room h = omega (arith, k .place, row-room n i m (array .long) h)
+  packing-room h = omega (arith, k .place, row-within n i m (array .long) h)
 
   -- and is line i
   lent : take (at + n - at) (drop at m) ≡ line n m i
-  lent = line-lent n i at m (k .place)
+  lent = part-at at n m (k .place)
 
   pub packing-lent : i < n → (length (take (at + n - at) (drop at m)) ≤ 64) × (length (take (at + n - at) (drop at m)) % 8 ≡ 0) × ((j : ℕ) → getD (take (at + n - at) (drop at m)) j 0 < 3)
   packing-lent h =

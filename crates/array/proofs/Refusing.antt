@@ -1,13 +1,13 @@
 -- The tests of the calls on arrays: by the degree that a number names, and what those of a taken call say of its input.
 -- Assumes nothing.
-use mathlib.Core.Path.{_≡_, refl, sym, ap, _∙_}
-use mathlib.Core.Bool.{Bool, true, false, not, _||_}
+use mathlib.Core.Path.{_≡_, refl, ap, _∙_}
+use mathlib.Core.Bool.{Bool, true, false, not, _||_, or-false}
 use mathlib.Core.List.{List, [], _∷_}
 use Prim.Native.Nat.{ℕ, suc, _+_, _-_, _*_, _^_, _<_, _≤_}
 use native.Mathlib.Nat.{mul-le-mul}
 use native.Mathlib.Omega.{arith}
 use borrow.Author.Tests.{eqb-false, ltb-false, leb-false}
-use lib.Dec.{eqb, ltb, leb}
+use lib.Dec.{eqb, ltb}
 use lib.ListN.{length, take, drop}
 use Rattle.degree.specs.declared.Degree.{Degree}
 use Rattle.degree.specs.declared.Degree.the-variants.{Four, Six}
@@ -19,7 +19,7 @@ use Rattle.line.specs.Encoding.{messageSize}
 use Rattle.line.specs.Refusals.{refusal, unnamed, misfit, some, atMost}
 use Rattle.line.specs.working.Calls.{Tested}
 use Rattle.line.proofs.Bounds.{square-le, size-le}
-use Rattle.line.proofs.Refusing.{or-none, some-none, fits, cells-small, known-bits, known-size, bits-named, none-applies, tested-known}
+use Rattle.line.proofs.Refusing.{some-none, fits, cells-small, known-bits, known-size, bits-named, none-applies, tested-known}
 use Rattle.array.specs.Arrays.{line}
 use Rattle.array.specs.working.Steps.{IsArray}
 use Rattle.array.specs.Refusals.{messageCells, encodeTests, extractTests, rowTests, decodeTests}
@@ -52,7 +52,7 @@ module _ (degree : ℕ) (one two : Bool) (bound : ℕ) (lent : List ℕ) where
   pub lent-known : (d : Degree) (r : Call) {x y : Bool} → named degree ≡ Known d → x ≡ one → y ≡ two
       → Tested (bits d) ((3, x || y) ∷ (4, not (atMost bound lent)) ∷ []) r → Tested degree Lent r
   lent-known d r {x} {y} e f g h =
-      tested-known degree d ((3, x || y) ∷ (4, not (atMost bound lent)) ∷ []) Lent r e (rw (e, f, g, or-none two)) h
+      tested-known degree d ((3, x || y) ∷ (4, not (atMost bound lent)) ∷ []) Lent r e (rw (e, f, g, or-false two)) h
 
   lent-taken : refusal Lent ≡ 0 → (one ≡ false) × (two ≡ false) × ((i : ℕ) → cell lent i < suc bound)
   lent-taken z =
@@ -106,7 +106,7 @@ row-part a index {n} e = part-at (index * n) n a refl ∙ ap (λ (x : ℕ). line
 -- the iterations that are taken
 pub few-iterations : (l : ℕ) → (eqb l 0 || ltb 20 l) ≡ false → (1 ≤ l) × (l ≤ 20)
 few-iterations l e =
-    let h = some-none (eqb l 0 ∷ ltb 20 l ∷ []) (rw (or-none (ltb 20 l)) e) in
+    let h = some-none (eqb l 0 ∷ ltb 20 l ∷ []) (rw (or-false (ltb 20 l)) e) in
     (omega (arith, eqb-false l 0 (h .0)), omega (arith, ltb-false 20 l (h .1 .0)))
 
 -- the filling words of them fit a number; n is the code's number for `size d`
@@ -125,7 +125,7 @@ module _ (d : Degree) (l : ℕ) (r w s : List ℕ) where
   decode-lengths c {n} e f h =
       tested-known (bits d) d ((3, misfit (length r) (n * n) || (misfit (length w) (2 * l * n) || misfit (length s) (n * n))) ∷ (4, not (atMost 2 r)) ∷ [])
       (decodeTests (bits d) l r w s []) c (bits-named d)
-      (rw (bits-named d, e, f, or-none (misfit (length s) (size d * size d)))) h
+      (rw (bits-named d, e, f, or-false (misfit (length s) (size d * size d)))) h
 
 module _ (degree l : ℕ) (r w s : List ℕ) (d : Degree) where
   pub decode-known : (c : Call) → named degree ≡ Known d → Tested (bits d) (decodeTests (bits d) l r w s []) c → Tested degree (decodeTests degree l r w s []) c

@@ -1,7 +1,7 @@
 -- Words by their binary digits: what and, or, xor, complement and the count of ones do to the lowest digit and to digit k.
 -- Assumes nothing.
-use mathlib.Core.Path.{_≡_, refl, sym, ap, ap₂, _∙_}
-use mathlib.Core.Bool.{Bool, true, false, cond, _&&_, _||_, not}
+use mathlib.Core.Path.{_≡_, refl, sym, ap, _∙_}
+use mathlib.Core.Bool.{Bool, true, false, _&&_, _||_, not}
 use mathlib.Core.Logic.{_⊎_, inl, inr}
 use Prim.Native.Nat.{ℕ, zero, suc, _+_, _-_, _*_, _/_, _%_, _^_, _<_, min, max, suc-le-suc}
 use native.Mathlib.Nat.{pow-suc, zero-add, zero-mul, zero-lt-suc, mul-comm, div-div-eq-div-mul, div-one, mul-assoc, mul-mod-left, le-max-left}

@@ -8,12 +8,12 @@ use Prim.Native.Nat.{ℕ, zero, suc, _+_, _-_, _*_, _/_, _%_, _^_, _≤_, _<_}
 use native.Mathlib.Nat.{pow-suc, div-one, zero-add, suc-add, le-of-suc-le-suc, zero-lt-suc, mul-comm, div-div-eq-div-mul}
 use native.Mathlib.Numerals.{add-one}
 use native.Mathlib.Omega.{arith}
-use lib.Bits.{bitXor, xor-zero-r, xor-lt, xor-block}
+use lib.Bits.{bitXor, xor-zero-r, xor-lt, xor-block, xor-comm}
 use borrow.Author.Tests.{lt-ltb, le-ltb}
 use lib.Dec.{eqb, leb·suc-suc}
 use lib.ListN.{length, getD, take, set}
 use lib.Pow.{pow-pos, field, mod-mod-pow}
-use Rattle.laws.proofs.Xor.{xors, xor-assoc, bit-ind, digit-lt}
+use Rattle.laws.proofs.Xor.{xors, xor-assoc, xor-one, bit-ind}
 use Rattle.laws.specs.Digits.{sumOver, ones, digits}
 use Rattle.laws.specs.working.Digits.{upTo}
 
@@ -79,12 +79,9 @@ unfolding sumOver ones
 sum-ones [] = refl
 sum-ones (c ∷ cs) = ap (bitXor (cell c 1)) (sum-ones cs) ∙ pick (eqb c 1)
   where
-    odd : bitXor 1 (ones cs % 2) ≡ (1 + ones cs % 2) % 2
-    odd = bit-ind (λ (x : ℕ). bitXor 1 x ≡ (1 + x) % 2) refl refl (digit-lt (ones cs))
-
     pick : (b : Bool)
         → bitXor (elim b [ true ↦ 1 | false ↦ 0 ]) (ones cs % 2) ≡ (elim b [ true ↦ 1 | false ↦ 0 ] + ones cs) % 2
-    pick true = omega (arith, odd)
+    pick true = omega (arith, xor-comm 1 (ones cs % 2), xor-one (ones cs))
     pick false = omega arith
 
 -- ---- parts of a list

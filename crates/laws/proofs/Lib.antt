@@ -1,6 +1,7 @@
 pub mod Xor
 pub mod Tests
 pub mod Searches
+pub mod Lists
 pub mod Bits
 pub mod Sums
 pub mod Masks

@@ -1,6 +1,6 @@
 -- Tests that the checker computes, over all numbers below a bound or all entries of a table, and what a passed test says of each.
 -- Assumes nothing.
-use mathlib.Core.Path.{_≡_, refl, _∙_, ap₂, subst, sym}
+use mathlib.Core.Path.{_≡_, refl, ap₂, subst, sym}
 use mathlib.Core.Bool.{Bool, true, false, _&&_, true≢false}
 use mathlib.Core.Logic.{_⊎_, inl, inr}
 use mathlib.Core.List.{List, [], _∷_}

@@ -1,8 +1,9 @@
 -- Sums by exclusive or: the laws that the library's `Bits` leaves out.
 -- Assumes nothing.
 use mathlib.Core.Path.{_≡_, refl, sym, ap, ap₂, _∙_}
-use Prim.Native.Nat.{ℕ, zero, suc, _+_, _*_, _/_, _%_, _^_, _<_}
+use Prim.Native.Nat.{ℕ, zero, suc, _+_, _*_, _/_, _%_, _<_}
 use native.Mathlib.Nat.{mod-lt, zero-lt-suc, not-suc-le-zero, le-of-suc-le-suc, add-zero, zero-mul, one-mul}
+use native.Mathlib.Omega.{arith}
 use lib.Arith.{bin-ind}
 use lib.Bits.{bitXor, differ, xor-step, xor-shr, xor-mod, xor-comm, xor-self, xor-zero-r, xor-block}
 use lib.Pow.{pow-pos}
@@ -44,6 +45,12 @@ xor-left-comm a b c = sym (xor-assoc a b c) ∙ ap (λ (x : ℕ). bitXor x c) (x
 -- a term added twice is gone
 pub xor-cancel : (a b : ℕ) → bitXor a (bitXor a b) ≡ b
 xor-cancel a b = sym (xor-assoc a a b) ∙ ap (λ (x : ℕ). bitXor x b) (xor-self a)
+
+-- a digit and 1
+pub xor-one : (x : ℕ) → bitXor (x % 2) 1 ≡ (x + 1) % 2
+xor-one x =
+    let s : bitXor (x % 2) 1 ≡ (x % 2 + 1) % 2 = bit-ind (λ (b : ℕ). bitXor b 1 ≡ (b + 1) % 2) refl refl (digit-lt x) in
+    omega arith
 
 -- `simp xors` sorts a sum and leaves out what stands twice
 pub ruleset xors = (xor-assoc, xor-comm, xor-left-comm, xor-cancel, xor-self, xor-zero-r)

@@ -5,7 +5,7 @@
 use mathlib.Core.Path.{_≡_, refl, sym, ap, ap₂, _∙_, subst}
 use mathlib.Core.Bool.{Bool, true, false, cond, _&&_}
 use mathlib.Core.List.{List, [], _∷_, _++_}
-use Prim.Native.Nat.{ℕ, zero, suc, _+_, _-_, _*_, _%_, _^_, _<_, _≤_}
+use Prim.Native.Nat.{ℕ, _+_, _-_, _*_, _%_, _^_, _<_, _≤_}
 use native.Mathlib.Decide.{decLt}
 use native.Mathlib.Nat.{mul-one}
 use native.Mathlib.Numerals.{add-one}
@@ -24,7 +24,7 @@ use Rattle.laws.proofs.Bits.{bit-one}
 use Rattle.laws.proofs.DigitSums.{sum-cong, sum-ones, sum-append, sum-more, digits-length}
 use Rattle.laws.proofs.Linear.{one, sum-step, Additive, sum-map, then-adds, shift-adds, sumDigits, digits-adds, digits-power, digits-bits, digits-at, pack-step, pack-digits, digits-pack, pack-lt, pack-append, to-cong, to-both, sum-to}
 use Rattle.laws.proofs.Tests.{every, every-at, and-left, and-right}
-use Rattle.laws.proofs.Xor.{digit-lt}
+use Rattle.laws.proofs.Xor.{digit-lt, xor-one}
 use Rattle.degree.specs.declared.Degree.{Degree}
 use Rattle.degree.specs.Degree.{size, order}
 use Rattle.line.specs.Cells.{IsWord}
@@ -80,16 +80,8 @@ module _ (d : Degree) where
       let s : sumOver (λ i. sums d (checkSize d + i)) m ≡ sums d (checkSize d + a) = digits-power (λ i. sums d (checkSize d + i)) (messageSize d) a h in
       let o : sumOver (λ i. 1) m ≡ 1 = digits-power (λ i. 1) (messageSize d) a h in
       let parity : ones (c ++ m) % 2 ≡ (ones c + 1) % 2 =
-      sym (sum-ones (c ++ m)) ∙ sum-append (λ i. 1) c m ∙ ap₂ bitXor (sum-ones c) o ∙ odd (ones c) in
+      sym (sum-ones (c ++ m)) ∙ sum-append (λ i. 1) c m ∙ ap₂ bitXor (sum-ones c) o ∙ xor-one (ones c) in
       sym (encode-word m (digits-length (messageSize d) (2 ^ a)) ∙ rw (parity, pack-digits (messageSize d) (2 ^ a) (pow-lt h), s))
-    where
-      odd : (x : ℕ) → bitXor (x % 2) 1 ≡ (x + 1) % 2
-      odd x = pick (x % 2) (digit-lt x) refl
-        where
-          pick : (b : ℕ) → b < 2 → x % 2 ≡ b → bitXor b 1 ≡ (x + 1) % 2
-          pick zero h e = omega arith
-          pick (suc zero) h e = omega arith
-          pick (suc (suc b)) h e = absurd (omega arith)
 
   -- what a passed test says
   pub units-rule : (t : List ℕ) → T (units? t) → length t ≡ 64 → Units d t

@@ -5,18 +5,18 @@ use native.Mathlib.Omega.{arith}
 use lib.ListN.{length}
 use Rattle.laws.proofs.Bits.{bit-at-lt}
 use Rattle.line.specs.working.Word.{value}
-use Rattle.array.proofs.Loops.{Writing, writing-start, writing-next, writing-end}
+use Rattle.array.proofs.Loops.{PutBits, put-bits-start, put-bits-next, put-bits-end}
 use Rattle.array.proofs.encoding.write_row.Statement.{statement}
 use Rattle.array.proofs.encoding.write_row.Tie as tie
 
 abbrev Inv-loop : tie.InvT-loop
-Inv-loop word row₀ j₀ row j = Writing (value word) row₀ row j
+Inv-loop word row₀ j₀ row j = PutBits (value word) row₀ row j
 
 abbrev μ-loop : tie.MeasureT-loop
 μ-loop word row₀ j₀ row j = length row₀ - j
 
 loop-holds : tie.Need-loop-holds Inv-loop μ-loop
-loop-holds c = writing-start _ _
+loop-holds c = put-bits-start _ _
 
 cast-bit-at : tie.Need-cast-bit-at Inv-loop μ-loop
 cast-bit-at c = omega (arith, c .before .loop .inv .long, c .before .before .before .pre)
@@ -37,13 +37,13 @@ loop-less : tie.Need-loop-less Inv-loop μ-loop
 loop-less c = omega (arith, c .before .before .loop .inv .long)
 
 loop-again : tie.Need-loop-again Inv-loop μ-loop
-loop-again c = writing-next (c .before .before .loop .inv) (c .before .loop-test .taken) (c .bit-at .result) (c .bit-at .ensures)
+loop-again c = put-bits-next (c .before .before .loop .inv) (c .before .loop-test .taken) (c .bit-at .result) (c .bit-at .ensures)
 
 same-length : tie.Need-same-length Inv-loop μ-loop
 same-length c = c .before .loop .inv .long
 
 returns : tie.Need-returns Inv-loop μ-loop
-returns c = writing-end (c .before .loop .inv) (c .loop-test .left)
+returns c = put-bits-end (c .before .loop .inv) (c .loop-test .left)
 
 pub write-row-spec : {M : Type 1} → statement M
 write-row-spec =

@@ -6,7 +6,7 @@ use mathlib.Core.Path.{refl}
 use Rattle.degree.specs.declared.Degree.the-variants.{Four, Six}
 use Rattle.field.specs.Field.{double}
 use Rattle.field.proofs.PowerTable.{powers-rule}
-use Rattle.field.proofs.Filling.{zeros-at}
+use Rattle.laws.proofs.Lists.{zeros-at}
 use Rattle.field.proofs.tables.make_tables.Statement.{statement}
 use Rattle.field.proofs.tables.make_tables.Tie as tie
 
