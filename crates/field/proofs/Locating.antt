@@ -19,10 +19,19 @@ use Rattle.field.specs.working.Fitting.{Within, Fits}
 use Rattle.field.proofs.Uniqueness.{unique}
 
 -- is there an answer
+pub zero≢unfit : Zero ≢ Unfit
+zero≢unfit e = let z : _≡_ {A = ℕ} 0 1 = cc in omega arith
+
+pub one≢unfit : {i : ℕ} → One i ≢ Unfit
+one≢unfit e = let z : _≡_ {A = ℕ} 0 1 = cc in omega arith
+
+pub two≢unfit : {i j : ℕ} → Two i j ≢ Unfit
+two≢unfit e = let z : _≡_ {A = ℕ} 0 1 = cc in omega arith
+
 unfit? : (q : Positions) → Dec (q ≡ Unfit)
-unfit? Zero = no (λ e. let z : _≡_ {A = ℕ} 0 1 = cc in omega arith)
-unfit? (One i) = no (λ e. let z : _≡_ {A = ℕ} 0 1 = cc in omega arith)
-unfit? (Two i j) = no (λ e. let z : _≡_ {A = ℕ} 0 1 = cc in omega arith)
+unfit? Zero = no zero≢unfit
+unfit? (One i) = no one≢unfit
+unfit? (Two i j) = no two≢unfit
 unfit? Unfit = yes refl
 
 choice : Choice orElse Unfit

@@ -1,7 +1,7 @@
 -- The search for positions that fit: one is known by s1, and the other of two by the first and what it leaves of s1.
 -- Assumes nothing.
 use mathlib.Core.Path.{_≡_, refl, sym, ap, _∙_, subst}
-use mathlib.Core.Logic.{_≢_, _⊎_, inl, inr, ⊎-elim, dite}
+use mathlib.Core.Logic.{_≢_, inl, inr, ⊎-elim, dite}
 use mathlib.Core.List.{List}
 use Prim.Native.Nat.{ℕ, _+_, _*_, _/_, _%_, _<_, _≤_}
 use native.Mathlib.Decide.{decLt, ℕ-discrete}
@@ -17,7 +17,7 @@ use Rattle.field.specs.Field.{power}
 use Rattle.field.specs.working.Positions.{located, atMostOne}
 use Rattle.field.specs.working.Tables.{Tables}
 use Rattle.field.specs.working.Fitting.{Fits, Second}
-use Rattle.field.proofs.Locating.{located-fits, located-is, located-unfit}
+use Rattle.field.proofs.Locating.{zero≢unfit, one≢unfit, two≢unfit, located-fits, located-is, located-unfit}
 use Rattle.field.proofs.Primitive.{primitive}
 use Rattle.field.proofs.Powers.{power-pos}
 use Rattle.field.proofs.Reading.{power-at, cube-at, two-at}
@@ -53,9 +53,9 @@ module _ (d : Degree) (s1 s3 : ℕ) where
     single-unfit f g = go (located d s1 s3) (located-fits d s1 s3)
       where
         go : (p : Positions) → (p ≢ Unfit → Fits d s1 s3 p) → Unfit ≡ atMostOne p
-        go Zero a = absurd (f (sym (a (λ z. let n : _≡_ {A = ℕ} 0 1 = cc in omega arith) .sum1)))
+        go Zero a = absurd (f (sym (a zero≢unfit .sum1)))
         go (One k) a =
-            let b = a (λ z. let n : _≡_ {A = ℕ} 0 1 = cc in omega arith) in
+            let b = a one≢unfit in
             let q : i ≡ k = primitive d .once h (b .within) (e ∙ sym (b .sum1)) in
             absurd (g (cube-at d t tab i h ∙ ap (λ (n : ℕ). power d (3 * n)) q ∙ b .sum3))
         go (Two j k) a = refl
@@ -145,7 +145,7 @@ module _ (d : Degree) (s1 s3 : ℕ) where
       go Zero z f = sym z
       go (One i) z f = sym z
       go (Two i j) z f =
-          let a = f (λ q. let m : _≡_ {A = ℕ} 0 1 = cc in omega arith) in
+          let a = f two≢unfit in
           absurd (n i j (omega (arith, a .within)) a)
       go Unfit z f = refl
 
@@ -159,7 +159,7 @@ module _ (d : Degree) (s1 s3 : ℕ) where
       go Zero f = refl
       go (One i) f = refl
       go (Two i j) f =
-          let a = f (λ q. let m : _≡_ {A = ℕ} 0 1 = cc in omega arith) in
+          let a = f two≢unfit in
           absurd (pair-pos d (a .within .0) (a .within .1) (a .sum1 ∙ z))
       go Unfit f = refl
 

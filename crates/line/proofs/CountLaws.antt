@@ -3,8 +3,7 @@
 use mathlib.Core.Path.{_≡_, refl}
 use mathlib.Core.Bool.{Bool, true, false, cond, not, _&&_, _||_}
 use mathlib.Core.List.{List, [], _∷_}
-use Prim.Native.Nat.{ℕ, zero, suc, _+_, _*_, _<_, _≤_}
-use native.Mathlib.Nat.{le-refl, mul-suc}
+use Prim.Native.Nat.{ℕ, _+_, _*_, _≤_}
 use native.Mathlib.Omega.{arith}
 use lib.Dec.{eqb}
 use lib.ListN.{length}
@@ -89,10 +88,10 @@ module _ (dec : List ℕ → Answer) (y r : List ℕ) (f : ℕ) where
           omega (arith, sum-le (λ k. cost (clause dec y r f k)) (λ k. 0) (length y) (λ k l. rw eq at (many-cost e k)), sum-constant 0 (length y))
 
 -- every degree has lines of at least 10 cells
-size-room : (d : Degree) → 10 ≤ size d
-size-room Four = omega arith
-size-room Six = omega arith
+size-least : (d : Degree) → 10 ≤ size d
+size-least Four = omega arith
+size-least Six = omega arith
 
 -- the count of a line is at most two more than its cells
 pub count-le : (d : Degree) (y r : List ℕ) (f : ℕ) → IsLine (size d) y → count (bounded d) y r f ≤ size d + 2
-count-le d y r f l = omega (arith, size-room d, l .long, count-length (bounded d) y r f (rw (l .long) (size-room d)))
+count-le d y r f l = omega (arith, size-least d, l .long, count-length (bounded d) y r f (rw (l .long) (size-least d)))

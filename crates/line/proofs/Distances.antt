@@ -5,7 +5,7 @@ use mathlib.Core.Path.{_≡_, refl, sym, ap, _∙_}
 use mathlib.Core.Bool.{Bool, true, false, cond, _&&_}
 use mathlib.Core.Logic.{_↔_, _≢_}
 use mathlib.Core.List.{List}
-use Prim.Native.Nat.{ℕ, _-_, _*_, _%_, _<_, _≤_}
+use Prim.Native.Nat.{ℕ, _*_, _%_, _<_, _≤_}
 use native.Mathlib.Nat.{le-refl}
 use native.Mathlib.Omega.{arith}
 use lib.Bits.{xor-comm}
@@ -27,7 +27,7 @@ use Rattle.field.specs.working.Fitting.{Within}
 use Rattle.field.proofs.Uniqueness.{unique}
 use Rattle.field.proofs.Primitive.{primitive}
 use Rattle.field.proofs.Locating.{searched-keeps, searched-none}
-use Rattle.line.specs.Cells.{IsWord, distance, flip, designedDistance}
+use Rattle.line.specs.Cells.{IsWord, distance, designedDistance}
 use Rattle.line.specs.Codeword.{Codeword, isCodeword}
 use Rattle.line.specs.Bounded.{Answer, Found, Failed, orElse, itself, oneFlipped, twoFlipped, within2, bounded}
 use Rattle.line.proofs.CellLaws.{take-bits, word-known, distance-self, distance-parts, distance-length, triangle}

@@ -4,7 +4,7 @@ use mathlib.Core.Path.{_≡_, refl, sym, ap, _∙_, subst}
 use mathlib.Core.Bool.{Bool, true, false}
 use mathlib.Core.Logic.{_≢_}
 use mathlib.Core.List.{List}
-use Prim.Native.Nat.{ℕ, suc, _+_, _*_, _%_, _≤_}
+use Prim.Native.Nat.{ℕ, suc, _+_, _%_, _≤_}
 use native.Mathlib.Omega.{arith}
 use lib.Bits.{bitXor, xor-self}
 use lib.Dec.{eqb}
@@ -15,16 +15,16 @@ use Rattle.degree.specs.declared.Degree.{Degree}
 use Rattle.field.specs.declared.locate.Positions.{Positions}
 use Rattle.field.specs.declared.locate.Positions.the-variants.{Zero, One, Two, Unfit}
 use Rattle.degree.specs.Degree.{size, order}
-use Rattle.field.specs.Field.{power}
 use Rattle.field.specs.working.Positions.{total}
 use Rattle.laws.specs.Digits.{sumOver}
 use Rattle.field.specs.Syndrome.{s1, s3, parity}
 use Rattle.field.specs.working.Fitting.{Within, Fits}
+use Rattle.field.proofs.Locating.{zero≢unfit, one≢unfit, two≢unfit}
 use Rattle.field.proofs.Uniqueness.{unique}
 use Rattle.field.proofs.Primitive.{primitive}
 use Rattle.line.specs.Cells.{IsWord, distance, flip}
 use Rattle.line.specs.Codeword.{Codeword}
-use Rattle.line.specs.Bounded.{Answer, Found, Failed, bounded}
+use Rattle.line.specs.Bounded.{Found, Failed, bounded}
 use Rattle.line.specs.working.Tries.{mended}
 use Rattle.line.proofs.CellLaws.{distance-parts}
 use Rattle.line.proofs.SumLaws.{ones-distance, take-flip, take-flip-past}
@@ -124,7 +124,7 @@ module _ (d : Degree) (w : List ℕ) (l : IsWord (size d) w) where
   pub answer-mends : (p : Positions) → (p ≢ Unfit → Fits d (s1 d w) (s3 d w) p)
       → (p ≡ Unfit → (q : Positions) → Fits d (s1 d w) (s3 d w) q → ⊥)
       → bounded d w ≡ mended d w p (eqb (parity d w) 0)
-  answer-mends Zero a n = fit-mends Zero (a (λ e. let z : _≡_ {A = ℕ} 0 1 = cc in omega arith))
-  answer-mends (One i) a n = fit-mends (One i) (a (λ e. let z : _≡_ {A = ℕ} 0 1 = cc in omega arith))
-  answer-mends (Two i j) a n = fit-mends (Two i j) (a (λ e. let z : _≡_ {A = ℕ} 0 1 = cc in omega arith))
+  answer-mends Zero a n = fit-mends Zero (a zero≢unfit)
+  answer-mends (One i) a n = fit-mends (One i) (a one≢unfit)
+  answer-mends (Two i j) a n = fit-mends (Two i j) (a two≢unfit)
   answer-mends Unfit a n = unfit-fails (n refl)

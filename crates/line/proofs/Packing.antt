@@ -3,7 +3,7 @@
 use mathlib.Core.Path.{_≡_, refl, sym, ap, ap₂, _∙_}
 use mathlib.Core.Bool.{Bool, true, false}
 use mathlib.Core.List.{List}
-use Prim.Native.Nat.{ℕ, suc, _+_, _-_, _*_, _/_, _%_, _^_, _≤_, _<_}
+use Prim.Native.Nat.{ℕ, _+_, _-_, _*_, _/_, _%_, _^_, _<_}
 use native.Mathlib.Omega.{arith}
 use lib.Bits.{bitAnd, bitOr, bitXor, xor-self, and-le-l}
 use lib.Count.{ones}
@@ -20,7 +20,7 @@ use Rattle.line.specs.working.Word.{value, width}
 use Rattle.line.specs.Cells.{cell, isErased, erasures, distance, filled, flip}
 use Rattle.line.specs.working.Packed.{isOne, packBy, Packs, PacksWord}
 use Rattle.line.proofs.CellLaws.{set-cells, filled-word}
-use Rattle.line.proofs.PackBits.{packBy-lt, packBy-bit, packBy-set, cell-ind, cell-of, filled-first, filled-second, no-erased, ones-erased, ones-differing}
+use Rattle.line.proofs.PackBits.{packBy-bit, packBy-set, cell-ind, cell-of, filled-first, filled-second, no-erased, ones-erased, ones-differing}
 
 -- cell k of a packed line
 pub cell-of-line : {n : ℕ} {cs : List ℕ} {l : Line} (k : ℕ) → Packs n cs l → value (l .ones) / 2 ^ k % 2 + 2 * (value (l .erased) / 2 ^ k % 2) ≡ cell cs k

@@ -1,7 +1,7 @@
 -- The tests of a call: what it gives by the number of the first that applies, and what a taken call's tests say of its input.
 -- Assumes nothing.
 use mathlib.Core.Path.{_≡_, refl, sym, ap, _∙_}
-use mathlib.Core.Bool.{Bool, true, false, cond, not, _&&_, _||_, true≢false}
+use mathlib.Core.Bool.{Bool, true, false, cond, not, _&&_, _||_, or-false, true≢false}
 use mathlib.Core.List.{List, [], _∷_, _++_}
 use Prim.Native.Nat.{ℕ, zero, suc, _+_, _^_, _<_, _≤_}
 use native.Mathlib.Numerals.{add-one}
@@ -13,6 +13,7 @@ use borrow.Author.Tests.{leb-true, eqb-true, eq-eqb, ne-eqb, not-false}
 use Rattle.laws.proofs.Tests.{and-true}
 use Rattle.degree.specs.declared.Degree.{Degree}
 use Rattle.degree.specs.declared.Degree.the-variants.{Four, Six}
+use Rattle.degree.specs.declared.Named.{Named}
 use Rattle.degree.specs.declared.Named.the-variants.{Known, Unknown}
 use Rattle.degree.specs.Degree.{bits, size, named}
 use Rattle.line.specs.declared.refusals.Refusal.{Refusal}
@@ -36,14 +37,6 @@ module _ (bound : ℕ) (cells : List ℕ) (i : ℕ) where
   unfolding atMost
   passed-all h = rw (drop-of-length-le cells h)
 
-pub and-assoc : (a b c : Bool) → ((a && b) && c) ≡ (a && (b && c))
-and-assoc true b c = refl
-and-assoc false b c = refl
-
-pub and-all : (a : Bool) → (a && true) ≡ a
-and-all true = refl
-and-all false = refl
-
 -- cells that pass the test are below the next number
 pub at-most-small : (bound : ℕ) (cells : List ℕ) → atMost bound cells ≡ true → (i : ℕ) → cell cells i < suc bound
 unfolding atMost
@@ -56,10 +49,6 @@ pub cells-small : (bound : ℕ) (cells : List ℕ) → not (atMost bound cells) 
 cells-small bound cells e = at-most-small bound cells (not-false (atMost bound cells) e)
 
 -- ---- several conditions
-
-pub or-none : (b : Bool) → (b || false) ≡ b
-or-none true = refl
-or-none false = refl
 
 -- none of them holds
 abbrev pub None : List Bool → Type 0
@@ -77,6 +66,10 @@ fits has asked e = eqb-true has asked (not-false (eqb has asked) e)
 
 -- ---- the degree that a number names
 
+-- no number names a degree and none
+pub known-unknown : {v : Named} {d : Degree} → v ≡ Known d → v ≡ Unknown → ⊥
+known-unknown e h = let z : _≡_ {A = ℕ} 0 1 = cc in omega arith
+
 module _ (degree : ℕ) where
   -- the number of the degree that it names is itself
   pub known-bits : (d : Degree) → named degree ≡ Known d → degree ≡ bits d
@@ -85,7 +78,7 @@ module _ (degree : ℕ) where
       go : (p q : Bool) → eqb degree 4 ≡ p → eqb degree 6 ≡ q → cond p (Known Four) (cond q (Known Six) Unknown) ≡ Known d → degree ≡ bits d
       go true q a b e = let h : Four ≡ d = cc in eqb-true degree 4 a ∙ ap bits h
       go false true a b e = let h : Six ≡ d = cc in eqb-true degree 6 b ∙ ap bits h
-      go false false a b e = let z : _≡_ {A = ℕ} 0 1 = cc in absurd (omega arith)
+      go false false a b e = absurd (known-unknown e refl)
 
   -- it names one degree
   pub known-one : {d d′ : Degree} → named degree ≡ Known d → named degree ≡ Known d′ → d ≡ d′
@@ -177,7 +170,7 @@ module _ (bound degree : ℕ) (cells : List ℕ) where
   unfolding lineTests
   line-known d r {n} e f h =
       tested-known degree d ((3, misfit (length cells) n) ∷ (4, not (atMost bound cells)) ∷ []) (lineTests bound degree cells []) r e
-      (rw (e, known-size degree d e, f, or-none (misfit (length cells) (size d)))) h
+      (rw (e, known-size degree d e, f, or-false (misfit (length cells) (size d)))) h
 
   pub line-unknown : named degree ≡ Unknown → 1 ≡ refusal (lineTests bound degree cells [])
   unfolding lineTests
@@ -223,7 +216,7 @@ module _ (d : Degree) (incoming channel messages : List ℕ) {n : ℕ} (e : n �
   -- they are those of the call
   messages-tests : refusal (Before ++ Last) ≡ refusal (messagesTests (bits d) incoming channel messages [])
   unfolding messagesTests
-  messages-tests = rw (e, bits-named d, or-none (misfit (length messages) (size d)))
+  messages-tests = rw (e, bits-named d, or-false (misfit (length messages) (size d)))
 
   pub messages-refused : (why : Refusal) → number why ≡ refusal Before → number why ≡ refusal (messagesTests (bits d) incoming channel messages [])
   messages-refused why h = h ∙ sym (refusal-more Before Last (λ z. some-number why (h ∙ z))) ∙ messages-tests

@@ -2,7 +2,7 @@
 -- Assumes nothing.
 use mathlib.Core.Path.{_≡_, refl, sym, ap, ap₂, _∙_, subst}
 use mathlib.Core.List.{List, [], _∷_}
-use Prim.Native.Nat.{ℕ, zero, suc, _-_, _*_, _%_, _≤_, _<_}
+use Prim.Native.Nat.{ℕ, zero, suc, _*_, _%_, _≤_, _<_}
 use native.Mathlib.Nat.{le-refl, le-of-suc-le-suc, not-suc-le-zero}
 use native.Mathlib.Omega.{arith}
 use lib.Bits.{bitOr, bitXor}
@@ -15,6 +15,7 @@ use Rattle.degree.specs.declared.Degree.the-variants.{Four, Six}
 use Rattle.field.specs.declared.syndrome.Syndrome.{Syndrome}
 use Rattle.degree.specs.Degree.{size, order}
 use Rattle.field.specs.Field.{power}
+use Rattle.field.proofs.Primitive.{primitive}
 use Rattle.laws.specs.Digits.{sumOver, ones, digits}
 use Rattle.field.specs.working.Checks.{IsSyndrome}
 use Rattle.line.specs.declared.packed.Line.{Line}
@@ -60,8 +61,7 @@ word-packs-one {cs} {ds} e p q =
 
 -- a line has room in a machine word
 pub size-room : (d : Degree) → size d ≤ width
-size-room Four = omega arith
-size-room Six = omega arith
+size-room d = primitive d .room
 
 -- a line is made of whole parts of eight cells
 pub size-eights : (d : Degree) → size d % 8 ≡ 0

@@ -17,7 +17,7 @@ use Rattle.field.specs.working.Checks.{IsSyndrome}
 use Rattle.field.specs.working.Fitting.{Fits}
 use Rattle.field.specs.working.Positions.{located}
 use Rattle.field.proofs.Primitive.{primitive}
-use Rattle.field.proofs.Locating.{located-fits, located-none}
+use Rattle.field.proofs.Locating.{one≢unfit, two≢unfit, located-fits, located-none}
 use Rattle.line.specs.declared.bounded.Tried.{Tried}
 use Rattle.line.specs.Cells.{flip}
 use Rattle.line.specs.Bounded.{bounded}
@@ -35,8 +35,8 @@ located-below d a b = go (located d a b) (located-fits d a b)
   where
     go : (p : Positions) → (p ≢ Unfit → Fits d a b p) → Below (size d) p
     go Zero f = tt
-    go (One i) f = let w = f (λ e. let z : _≡_ {A = ℕ} 0 1 = cc in omega arith) .within in omega (arith, last-below d)
-    go (Two i j) f = let w = f (λ e. let z : _≡_ {A = ℕ} 0 1 = cc in omega arith) .within in (omega (arith, last-below d), omega (arith, last-below d))
+    go (One i) f = let w = f one≢unfit .within in omega (arith, last-below d)
+    go (Two i j) f = let w = f two≢unfit .within in (omega (arith, last-below d), omega (arith, last-below d))
     go Unfit f = tt
 
 pub usable-below : (d : Degree) (a b : ℕ) (even : Bool) (p : Positions) → p ≡ usable even (located d a b) → Below (size d) p

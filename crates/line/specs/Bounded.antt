@@ -1,6 +1,6 @@
 -- Bounded-distance decoding. Document 01, "One line": the one codeword within 2 of a full word. It fails exactly if no
 -- codeword lies within 2. Here it is a search: the word itself, else the word with one cell flipped, else with two.
-use mathlib.Core.Bool.{Bool, true, false, cond}
+use mathlib.Core.Bool.{Bool, cond}
 use mathlib.Core.List.{List}
 use Prim.Native.Nat.{ℕ}
 use lib.ListN.{length}

@@ -3,11 +3,11 @@
 -- Assumes nothing.
 use Prim.Native.Nat.{_-_, _≤_}
 use mathlib.Core.Path.{_≡_, refl, sym, ap, _∙_}
-use mathlib.Core.Bool.{_&&_}
+use mathlib.Core.Bool.{_&&_, and-assoc, and-true}
 use native.Mathlib.Omega.{arith}
 use lib.ListN.{length, drop}
 use Rattle.line.specs.Refusals.{atMost}
-use Rattle.line.proofs.Refusing.{one-more, passed-all, and-assoc, and-all}
+use Rattle.line.proofs.Refusing.{one-more, passed-all}
 use Rattle.line.proofs.refusals.at_most.Statement.{statement}
 use Rattle.line.proofs.refusals.at_most.Tie as tie
 
@@ -37,7 +37,7 @@ loop-again c =
 returns : tie.Need-returns Inv-loop μ-loop
 returns c =
     let l = c .before .loop in
-    sym (and-all (l .all)) ∙ ap (λ b. l .all && b) (sym (passed-all _ _ _ (c .loop-test .left))) ∙ l .inv .1
+    sym (and-true (l .all)) ∙ ap (λ b. l .all && b) (sym (passed-all _ _ _ (c .loop-test .left))) ∙ l .inv .1
 
 pub at-most-spec : {M : Type 1} → statement M
 at-most-spec =
