@@ -1,7 +1,7 @@
 -- What the calls of an array tell, from what the entries below promise.
 -- Assumes nothing.
 use mathlib.Core.Path.{_≡_, refl, sym, ap, _∙_}
-use mathlib.Core.Bool.{Bool, true, false, cond, true≢false}
+use mathlib.Core.Bool.{Bool, true, false, cond, true≢false, or-true}
 use mathlib.Core.List.{List, [], _∷_}
 use Prim.Native.Nat.{ℕ, _*_, _^_, _≤_}
 use native.Mathlib.Nat.{mul-zero}
@@ -25,7 +25,7 @@ use Rattle.array.proofs.ArrayLaws.{length-line}
 use Rattle.array.proofs.Refusing.{row-taken, row-room}
 use Rattle.pugdrel.specs.Reports.{fits, told}
 use Rattle.pugdrel.specs.ArrayCalls.{reportNumbers, DecodeTold, rowCall, RowTold}
-use Rattle.pugdrel.proofs.Handing.{or-true, no-array, Alike, same-refusal, same-given, taken-fits}
+use Rattle.pugdrel.proofs.Handing.{no-array, Alike, same-refusal, same-given, taken-fits}
 
 -- ---- decode
 

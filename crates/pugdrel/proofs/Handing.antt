@@ -2,7 +2,7 @@
 -- call gives that has the report's length among its tests.
 -- Assumes nothing.
 use mathlib.Core.Path.{_≡_, refl, sym, _∙_}
-use mathlib.Core.Bool.{Bool, true, false, cond, not, _||_}
+use mathlib.Core.Bool.{Bool, true, false, cond, not}
 use mathlib.Core.List.{List, [], _∷_}
 use Prim.Native.Nat.{ℕ, _*_, _^_, _≤_}
 use native.Mathlib.Nat.{mul-le-mul}
@@ -29,10 +29,6 @@ lent-part true s {x} e = take-all x s (omega arith)
 lent-part false s e = rw e
 
 -- ---- lengths that are wrong
-
-pub or-true : (b : Bool) → (b || true) ≡ true
-or-true true = refl
-or-true false = refl
 
 -- no cells are neither n nor n by n
 pub no-line : (degree : ℕ) → misfit 0 (2 ^ degree) ≡ true

@@ -1,7 +1,7 @@
 -- What the calls of one word or line tell, from what the entries below promise.
 -- Assumes nothing.
 use mathlib.Core.Path.{_≡_, refl, sym, ap, _∙_}
-use mathlib.Core.Bool.{Bool, true, false, cond, not, true≢false}
+use mathlib.Core.Bool.{Bool, true, false, cond, not, true≢false, or-true}
 use mathlib.Core.List.{List, [], _∷_, _++_, append-nil}
 use Prim.Native.Nat.{ℕ, _^_}
 use native.Mathlib.Omega.{arith}
@@ -18,7 +18,7 @@ use Rattle.line.specs.Entries.{isFound, lineNumbers, Answered, messagesNumbers,
 use Rattle.line.proofs.Refusing.{some-none, none-applies, given-none}
 use Rattle.pugdrel.specs.Reports.{fits, told}
 use Rattle.pugdrel.specs.LineCalls.{LineTold, MessagesTold}
-use Rattle.pugdrel.proofs.Handing.{or-true, no-line, Alike, same-refusal, same-given, lent-part}
+use Rattle.pugdrel.proofs.Handing.{no-line, Alike, same-refusal, same-given, lent-part}
 
 -- ---- a word or a line, decoded in place: the part that is handed on, and the cells after it
 

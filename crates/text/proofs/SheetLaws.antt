@@ -27,7 +27,7 @@ use Rattle.array.specs.Refusals.{decodeTests}
 use Rattle.array.specs.Entries.{DecodeDone, decodeNumbers}
 use Rattle.line.specs.Refusals.{number, refusal, atMost}
 use Rattle.line.specs.working.Calls.{Tested}
-use Rattle.line.proofs.Refusing.{some-number, bits-named, known-size, none-applies, given-taken, given-refused, tested-known}
+use Rattle.line.proofs.Refusing.{some-number, known-unknown, bits-named, known-size, none-applies, given-taken, given-refused, tested-known}
 use Rattle.laws.proofs.Tests.{and-true}
 use Rattle.array.specs.Plain.{plain, plainCount, closed}
 use Rattle.array.specs.working.Steps.{IsArray}
@@ -39,8 +39,8 @@ use Rattle.text.proofs.WritingLaws.{cells-even}
 -- ---- sizes
 
 -- the lines of a sheet have 4160 bytes at most
-pub room-le : (n : ℕ) → n ≤ 64 → n * (n + 1) ≤ 4160
-room-le n h = let l : n + 1 ≤ 65 = omega arith in mul-le-mul h l
+pub sheet-le : (n : ℕ) → n ≤ 64 → n * (n + 1) ≤ 4160
+sheet-le n h = let l : n + 1 ≤ 65 = omega arith in mul-le-mul h l
 
 -- ---- the cells that are read make an array
 
@@ -151,10 +151,7 @@ pub named-long : (t : List ℕ) (d : Degree) → named (firstLine t) ≡ Known d
 named-long t d e = dite (decLt (length t) 2) (λ q. absurd (short q)) (λ q. omega arith)
   where
     short : length t < 2 → ⊥
-    short q =
-        let f : named (firstLine t) ≡ Unknown = rw (List·getD-eq-default t 0 {n = 1} (omega arith)) in
-        let z : _≡_ {A = ℕ} 0 1 = cc in
-        omega arith
+    short q = let f : named (firstLine t) ≡ Unknown = rw (List·getD-eq-default t 0 {n = 1} (omega arith)) in known-unknown e f
 
 pub rest-is : (t : List ℕ) → take (length t - 2) (drop 2 t) ≡ drop 2 t
 rest-is t = take-all (length t - 2) (drop 2 t) (omega (arith, length-drop 2 t))

@@ -3,7 +3,7 @@
 use borrow.Author.Tests.{eq-eqb, ne-eqb}
 use native.Mathlib.Omega.{arith}
 use Rattle.text.specs.Text.{shaped}
-use Rattle.text.proofs.SheetLaws.{room-le}
+use Rattle.text.proofs.SheetLaws.{sheet-le}
 use borrow.Author.Needs.{needs}
 use Rattle.text.proofs.reading.is_shaped.Statement.{statement}
 use Rattle.text.proofs.reading.is_shaped.Tie as tie
@@ -12,7 +12,7 @@ add-if1 : tie.Need-add-if1
 add-if1 c = search needs
 
 mul-if1 : tie.Need-mul-if1
-mul-if1 c = omega (arith, room-le (c .before .args .n) (c .before .pre))
+mul-if1 c = omega (arith, sheet-le (c .before .args .n) (c .before .pre))
 
 all-placed-requires : tie.Need-all-placed-requires
 all-placed-requires c κs = search needs

@@ -8,7 +8,7 @@ use lib.ListN.{take, drop}
 use Rattle.text.specs.Text.{cellOf, cellsOf}
 use Rattle.array.proofs.ArrayLaws.{length-lines}
 use Rattle.array.proofs.WrittenLines.{part-at, part-length, lining-length, lining-free}
-use Rattle.text.proofs.SheetLaws.{room-le}
+use Rattle.text.proofs.SheetLaws.{sheet-le}
 use Rattle.text.proofs.WritingLaws.{Lined, lined-start, lined-source, lined-next, lined-end, wrote-all, cells-even}
 use Rattle.text.proofs.reading.read_cells.Statement.{statement}
 use Rattle.text.proofs.reading.read_cells.Tie as tie
@@ -27,7 +27,7 @@ loop-holds c =
 add-end : tie.Need-add-end Inv-loop μ-loop
 add-end c =
     let s = c .before .before .before .before in
-    omega (arith, lined-source (c .before .loop .inv) (c .loop-test .taken), room-le (s .args .n) (s .pre .0))
+    omega (arith, lined-source (c .before .loop .inv) (c .loop-test .taken), sheet-le (s .args .n) (s .pre .0))
 
 sub-put-turned : tie.Need-sub-put-turned Inv-loop μ-loop
 sub-put-turned c = omega arith
@@ -53,7 +53,7 @@ add-from : tie.Need-add-from Inv-loop μ-loop
 add-from c =
     let q = c .before .before .before .before .before .before in
     let s = q .before .before .before in
-    omega (arith, lined-source (q .loop .inv) (c .before .before .before .before .before .loop-test .taken), room-le (s .args .n) (s .pre .0))
+    omega (arith, lined-source (q .loop .inv) (c .before .before .before .before .before .loop-test .taken), sheet-le (s .args .n) (s .pre .0))
 
 add-i : tie.Need-add-i Inv-loop μ-loop
 add-i c = omega arith

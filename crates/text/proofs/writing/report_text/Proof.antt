@@ -5,7 +5,7 @@ use mathlib.Core.Logic.{⊎-elim}
 use native.Mathlib.Omega.{arith}
 use Rattle.laws.specs.Bits.{bit}
 use Rattle.text.specs.Text.{reportText}
-use Rattle.text.proofs.SheetLaws.{room-le}
+use Rattle.text.proofs.SheetLaws.{sheet-le}
 use Rattle.text.proofs.WritingLaws.{wrote-then, wrote-length}
 use borrow.Author.Needs.{needs}
 use Rattle.text.proofs.writing.report_text.Statement.{statement}
@@ -19,7 +19,7 @@ put-lines-requires c κs =
     let q = c .before .before .before in
     let s = q .before .before .before .before .before in
     let w = q .put-numbers .ensures in
-    (s .pre .0, s .pre .1, omega (arith, w .1, wrote-length (w .0), s .pre .2, room-le (s .args .n) (s .pre .0)))
+    (s .pre .0, s .pre .1, omega (arith, w .1, wrote-length (w .0), s .pre .2, sheet-le (s .args .n) (s .pre .0)))
 
 same-length : tie.Need-same-length
 same-length c = search needs
