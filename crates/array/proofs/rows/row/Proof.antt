@@ -1,8 +1,10 @@
 -- `array::rows::row` meets its contract: the tests of a taken look-up say that the row lies within the cells.
 -- Assumes nothing.
+use Prim.Native.Nat.{_+_, _*_, _≤_}
 use mathlib.Core.Path.{sym, _∙_}
 use mathlib.Core.List.{[]}
 use native.Mathlib.Omega.{arith}
+use lib.ListN.{length}
 use Rattle.degree.specs.Degree.{size}
 use Rattle.line.proofs.Refusing.{given-taken, given-refused}
 use Rattle.array.specs.Arrays.{line}
@@ -21,21 +23,23 @@ enum-known-call c = search needs
 size-of-requires : tie.Need-size-of-requires
 size-of-requires c κs = search needs
 
-mul-at : tie.Need-mul-at
-mul-at c =
+-- the row lies within the cells, and its end fits
+within : (c : tie.After-size-of)
+    → (c .before .before .before .before .before .before .args .index * c .size-of .result + c .size-of .result ≤ length (c .before .before .before .before .before .before .args .cells .now))
+    × (length (c .before .before .before .before .before .before .args .cells .now) ≤ 4096)
+within c =
     let q = c .before .before in
     let s = q .before .before .before .before .args in
     let d = q .call .given .0 .0 in
     let h = row-taken (s .degree) (s .cells .now) (s .index) d (rw (q .call .given .1) at (q .before .before .row-test .ensures)) in
-    omega (arith, row-room d (s .index) (c .size-of .ensures) (h .1), h .0)
+    let r = row-room d (s .index) (c .size-of .ensures) (h .1) in
+    (omega (arith, r, h .0), omega (arith, r, h .0))
+
+mul-at : tie.Need-mul-at
+mul-at c = omega (arith, within c)
 
 add-result : tie.Need-add-result
-add-result c =
-    let q = c .before .before in
-    let s = q .before .before .before .before .args in
-    let d = q .call .given .0 .0 in
-    let h = row-taken (s .degree) (s .cells .now) (s .index) d (rw (q .call .given .1) at (q .before .before .row-test .ensures)) in
-    omega (arith, row-room d (s .index) (c .size-of .ensures) (h .1), h .0)
+add-result c = omega (arith, within c)
 
 sub-result : tie.Need-sub-result
 sub-result c = search needs
@@ -44,12 +48,7 @@ part-result-start : tie.Need-part-result-start
 part-result-start c = search needs
 
 part-result-end : tie.Need-part-result-end
-part-result-end c =
-    let q = c .before .before in
-    let s = q .before .before .before .before .args in
-    let d = q .call .given .0 .0 in
-    let h = row-taken (s .degree) (s .cells .now) (s .index) d (rw (q .call .given .1) at (q .before .before .row-test .ensures)) in
-    omega (arith, row-room d (s .index) (c .size-of .ensures) (h .1), h .0)
+part-result-end c = omega (arith, within c)
 
 enum-told : tie.Need-enum-told
 enum-told c = search needs
