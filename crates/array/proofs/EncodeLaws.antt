@@ -11,14 +11,14 @@ use Rattle.line.specs.declared.refusals.Refusal.{Refusal}
 use Rattle.line.specs.Refusals.{number, refusal}
 use Rattle.line.proofs.Refusing.{known-one, some-number, given-taken, given-refused}
 use Rattle.array.specs.Encoding.{encodeArray, OneArray}
-use Rattle.array.specs.Refusals.{encodeTests}
+use Rattle.array.specs.Refusals.{codingTests}
 use Rattle.array.specs.Entries.{Encoded}
-use Rattle.array.proofs.Refusing.{encode-taken}
+use Rattle.array.proofs.Refusing.{message-bits}
 use Rattle.array.proofs.ArrayEncoding.{encode-one}
 
 module _ (degree : ℕ) (message before : List ℕ) where
   abbrev Tests : List (ℕ × Bool)
-  Tests = encodeTests degree message before
+  Tests = codingTests 1 degree message before message
 
   pub encoded-taken : {d : Degree} {after : List ℕ} → (refusal Tests ≡ 0) × (named degree ≡ Known d) → after ≡ encodeArray d message
       → Encoded degree message before after 0
@@ -27,7 +27,7 @@ module _ (degree : ℕ) (message before : List ℕ) where
         refusal = sym (h .0);
         cells = e ∙ sym (given-taken Tests degree (λ d. encodeArray d message) before h);
         one = λ d′ z k.
-            let made : OneArray d message after = rw e (encode-one d message (encode-taken degree message before d h .0)) in
+            let made : OneArray d message after = rw e (encode-one d message (message-bits degree message before d h)) in
             rw (known-one degree (h .1) k) at made;
       }
 

@@ -22,7 +22,7 @@ use Rattle.line.proofs.Bounds.{square-le, size-le}
 use Rattle.line.proofs.Refusing.{some-none, fits, cells-small, known-bits, known-size, bits-named, none-applies, tested-known}
 use Rattle.array.specs.Arrays.{line}
 use Rattle.array.specs.working.Steps.{IsArray}
-use Rattle.array.specs.Refusals.{messageCells, encodeTests, extractTests, rowTests, decodeTests}
+use Rattle.array.specs.Refusals.{messageCells, codingTests, rowTests, decodeTests}
 use Rattle.array.proofs.ArrayLaws.{line-room}
 use Rattle.array.proofs.WrittenLines.{part-at}
 
@@ -60,25 +60,20 @@ module _ (degree : ℕ) (one two : Bool) (bound : ℕ) (lent : List ℕ) where
       let l = some-none (one ∷ two ∷ []) (n .1 .0) in
       (l .0, l .1 .0, cells-small bound lent (n .1 .1 .0))
 
--- ---- encode
+-- ---- encode and extract
 
-module _ (degree : ℕ) (message cells : List ℕ) (d : Degree) where
-  pub encode-taken : (refusal (encodeTests degree message cells) ≡ 0) × (named degree ≡ Known d)
-      → IsWord (messageSize d * messageSize d) message × (length cells ≡ size d * size d)
-  unfolding encodeTests
-  encode-taken h =
-      let t = lent-taken degree _ _ 1 message (h .0) in
-      (record { long = square-fits (length message) (known-message degree d (h .1)) (t .0); small = t .2 }, square-fits (length cells) (known-size degree d (h .1)) (t .1))
+module _ (bound degree : ℕ) (message cells read : List ℕ) (d : Degree) where
+  pub coding-taken : (refusal (codingTests bound degree message cells read) ≡ 0) × (named degree ≡ Known d)
+      → (length message ≡ messageSize d * messageSize d) × (length cells ≡ size d * size d) × ((i : ℕ) → cell read i < suc bound)
+  unfolding codingTests
+  coding-taken h =
+      let t = lent-taken degree _ _ bound read (h .0) in
+      (square-fits (length message) (known-message degree d (h .1)) (t .0), square-fits (length cells) (known-size degree d (h .1)) (t .1), t .2)
 
--- ---- extract
-
-module _ (degree : ℕ) (cells message : List ℕ) (d : Degree) where
-  pub extract-taken : (refusal (extractTests degree cells message) ≡ 0) × (named degree ≡ Known d)
-      → (length cells ≡ size d * size d) × (length message ≡ messageSize d * messageSize d)
-  unfolding extractTests
-  extract-taken h =
-      let t = lent-taken degree _ _ 2 cells (h .0) in
-      (square-fits (length cells) (known-size degree d (h .1)) (t .0), square-fits (length message) (known-message degree d (h .1)) (t .1))
+-- the message of a call to encode that is taken
+pub message-bits : (degree : ℕ) (message cells : List ℕ) (d : Degree) → (refusal (codingTests 1 degree message cells message) ≡ 0) × (named degree ≡ Known d)
+    → IsWord (messageSize d * messageSize d) message
+message-bits degree message cells d h = let t = coding-taken 1 degree message cells message d h in record { long = t .0; small = t .2 }
 
 -- ---- the look-up of a row
 

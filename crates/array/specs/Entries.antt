@@ -15,19 +15,19 @@ use Rattle.array.specs.declared.entry.DecodeAnswer.the-variants as answe
 use Rattle.array.specs.Arrays.{line}
 use Rattle.array.specs.Encoding.{encodeArray, extracted, OneArray, SentArray}
 use Rattle.array.specs.Plain.{plain, plainCount, closed as closedIn, RowCondition}
-use Rattle.array.specs.Refusals.{encodeTests, extractTests, rowTests, decodeTests}
+use Rattle.array.specs.Refusals.{codingTests, rowTests, decodeTests}
 
 -- ---- encode, extract and the look-up of a row answer with the refusal number itself
 
 pub record Encoded (degree : ℕ) (message before after : List ℕ) (no : ℕ) : Type 0 where
-  pub refusal : no ≡ refusal (encodeTests degree message before)
-  pub cells : after ≡ given degree (encodeTests degree message before) (λ d. encodeArray d message) before
+  pub refusal : no ≡ refusal (codingTests 1 degree message before message)
+  pub cells : after ≡ given degree (codingTests 1 degree message before message) (λ d. encodeArray d message) before
   -- demand 2, of a call that is taken
   pub one : (d : Degree) → no ≡ 0 → named degree ≡ Known d → OneArray d message after
 
 pub record Extracted (degree : ℕ) (cells before after : List ℕ) (no : ℕ) : Type 0 where
-  pub refusal : no ≡ refusal (extractTests degree cells before)
-  pub message : after ≡ given degree (extractTests degree cells before) (λ d. extracted d cells) before
+  pub refusal : no ≡ refusal (codingTests 2 degree before cells cells)
+  pub message : after ≡ given degree (codingTests 2 degree before cells cells) (λ d. extracted d cells) before
 
 abbrev pub rowRefusal : (degree : ℕ) (cells : List ℕ) (index : ℕ) → ℕ
 rowRefusal degree cells index = refusal (rowTests degree cells index [])

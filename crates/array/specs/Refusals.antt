@@ -12,21 +12,14 @@ use Rattle.line.specs.Refusals.{unnamed, misfit, some, atMost}
 abbrev pub messageCells : (degree : ℕ) → ℕ
 messageCells degree = 2 ^ degree - 1 - 2 * degree
 
--- encode: a message of k by k bits, and n by n cells to write
-unfoldable pub encodeTests : (degree : ℕ) (message cells : List ℕ) → List (ℕ × Bool)
-encodeTests degree message cells =
+-- encode and extract: a message of k by k cells and an array of n by n cells; one of them is read, and none of its cells is above the
+-- bound, the other is only written
+unfoldable pub codingTests : (bound degree : ℕ) (message cells read : List ℕ) → List (ℕ × Bool)
+codingTests bound degree message cells read =
     let n = 2 ^ degree in let k = messageCells degree in
     (1, unnamed degree)
     ∷ (3, some (misfit (length message) (k * k) ∷ misfit (length cells) (n * n) ∷ []))
-    ∷ (4, not (atMost 1 message)) ∷ []
-
--- extract: an array of n by n cells, and a message of k by k cells to write
-unfoldable pub extractTests : (degree : ℕ) (cells message : List ℕ) → List (ℕ × Bool)
-extractTests degree cells message =
-    let n = 2 ^ degree in let k = messageCells degree in
-    (1, unnamed degree)
-    ∷ (3, some (misfit (length cells) (n * n) ∷ misfit (length message) (k * k) ∷ []))
-    ∷ (4, not (atMost 2 cells)) ∷ []
+    ∷ (4, not (atMost bound read)) ∷ []
 
 -- the look-up of a row of an array of n by n cells; "a row number of n or more is refused as 3"
 unfoldable pub rowTests : (degree : ℕ) (cells : List ℕ) (index : ℕ) (more : List Bool) → List (ℕ × Bool)

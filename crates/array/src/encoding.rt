@@ -1,5 +1,5 @@
 // Encoding an array on packed words: the message rows are encoded, and the rows of the array are sums of them.
-use crate::refusals::encode_test;
+use crate::refusals::coding_test;
 use degree::Degree;
 use degree::size_of;
 use line::encoding::UnitTable;
@@ -105,7 +105,7 @@ fn encode_array(d: Degree, message: &[u8], cells: &mut [u8])
 pub fn encode(degree: u64, message: &[u8], cells: &mut [u8]) -> u64
     ensures { λ r. ⌜ Encoded degree (now (message .entry)) (now (cells .entry)) (now (cells .exit)) r ⌝ }
 {
-    let call = encode_test(degree, message, cells);
+    let call = coding_test(degree, message, cells, 1, message);
     match call {
         Call::Taken(d) => {
             encode_array(d, message, cells);

@@ -1,5 +1,5 @@
 // Taking the message out of an array.
-use crate::refusals::extract_test;
+use crate::refusals::coding_test;
 use degree::Degree;
 use degree::size_of;
 use line::packed::Line;
@@ -38,7 +38,7 @@ fn extract_message(d: Degree, cells: &[u8], message: &mut [u8])
 pub fn extract(degree: u64, cells: &[u8], message: &mut [u8]) -> u64
     ensures { λ r. ⌜ Extracted degree (now (cells .entry)) (now (message .entry)) (now (message .exit)) r ⌝ }
 {
-    let call = extract_test(degree, cells, message);
+    let call = coding_test(degree, message, cells, 2, cells);
     match call {
         Call::Taken(d) => {
             extract_message(d, cells, message);

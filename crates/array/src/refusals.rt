@@ -10,10 +10,11 @@ use line::refusals::lent_test;
 ghost use mathlib.Core.List.{[]};
 ghost use Rattle.degree.specs.Degree.{bits};
 ghost use Rattle.line.specs.working.Calls.{Tested};
-ghost use Rattle.array.specs.Refusals.{encodeTests, extractTests, rowTests, decodeTests};
+ghost use Rattle.array.specs.Refusals.{codingTests, rowTests, decodeTests};
 
-pub fn encode_test(degree: u64, message: &[u8], cells: &[u8]) -> Call
-    ensures { λ r. ⌜ Tested degree (encodeTests degree (now (message .entry)) (now (cells .entry))) r ⌝ }
+// A call that lends a message and an array, and reads one of them.
+pub fn coding_test(degree: u64, message: &[u8], cells: &[u8], bound: u8, read: &[u8]) -> Call
+    ensures { λ r. ⌜ Tested degree (codingTests bound degree (now (message .entry)) (now (cells .entry)) (now (read .entry))) r ⌝ }
 {
     let named = degree_of(degree);
     match named {
@@ -21,22 +22,7 @@ pub fn encode_test(degree: u64, message: &[u8], cells: &[u8]) -> Call
             let n = size_of(d);
             let k = Line::message_cells(d);
             let wrong = (message.len() != k * k) | (cells.len() != n * n);
-            lent_test(d, wrong, 1, message)
-        }
-        Named::Unknown => Call::Refused(Refusal::BadDegree),
-    }
-}
-
-pub fn extract_test(degree: u64, cells: &[u8], message: &[u8]) -> Call
-    ensures { λ r. ⌜ Tested degree (extractTests degree (now (cells .entry)) (now (message .entry))) r ⌝ }
-{
-    let named = degree_of(degree);
-    match named {
-        Named::Known(d) => {
-            let n = size_of(d);
-            let k = Line::message_cells(d);
-            let wrong = (cells.len() != n * n) | (message.len() != k * k);
-            lent_test(d, wrong, 2, cells)
+            lent_test(d, wrong, bound, read)
         }
         Named::Unknown => Call::Refused(Refusal::BadDegree),
     }

@@ -1,13 +1,13 @@
 -- `array::encoding::encode` meets its contract: the tests of a taken call say that what is lent is of the right form.
 -- Assumes nothing.
-use Rattle.array.proofs.Refusing.{encode-taken}
+use Rattle.array.proofs.Refusing.{coding-taken, message-bits}
 use Rattle.array.proofs.EncodeLaws.{encoded-taken, encoded-refused}
 use borrow.Author.Needs.{needs}
 use Rattle.array.proofs.encoding.encode.Statement.{statement}
 use Rattle.array.proofs.encoding.encode.Tie as tie
 
-encode-test-requires : tie.Need-encode-test-requires
-encode-test-requires c κs = search needs
+coding-test-requires : tie.Need-coding-test-requires
+coding-test-requires c κs = search needs
 
 enum-known-call : tie.Need-enum-known-call
 enum-known-call c = search needs
@@ -16,7 +16,8 @@ encode-array-requires : tie.Need-encode-array-requires
 encode-array-requires c κs =
     let q = c .before .before in
     let s = q .before .before .before .before .before .before .args in
-    encode-taken (s .degree) (s .message .now) (s .cells .now) (q .call .given .0 .0) (rw (q .call .given .1) at (q .before .before .encode-test .ensures))
+    let h = rw (q .call .given .1) at (q .before .before .coding-test .ensures) in
+    (message-bits (s .degree) (s .message .now) (s .cells .now) (q .call .given .0 .0) h, coding-taken 1 (s .degree) (s .message .now) (s .cells .now) (s .message .now) (q .call .given .0 .0) h .1)
 
 enum-known-call-2 : tie.Need-enum-known-call-2
 enum-known-call-2 c = search needs
@@ -31,7 +32,7 @@ returns : tie.Need-returns
 returns c =
     let q = c .before .before .before .before .before in
     let s = q .before .before .before .before .before .before .args in
-    encoded-taken (s .degree) (s .message .now) (s .cells .now) (rw (q .call .given .1) at (q .before .before .encode-test .ensures)) (c .before .before .encode-array .ensures)
+    encoded-taken (s .degree) (s .message .now) (s .cells .now) (rw (q .call .given .1) at (q .before .before .coding-test .ensures)) (c .before .before .encode-array .ensures)
 
 same-length-2 : tie.Need-same-length-2
 same-length-2 c = search needs
@@ -41,13 +42,13 @@ returns-2 c =
     let q = c .before .before in
     let s = q .before .before .before .before .before .before .args in
     encoded-refused (s .degree) (s .message .now) (s .cells .now) (q .call2 .given .0 .0) (c .number-of .ensures)
-    (rw (q .call2 .given .1) at (q .before .before .encode-test .ensures))
+    (rw (q .call2 .given .1) at (q .before .before .coding-test .ensures))
 
 pub encode-spec : {M : Type 1} → statement M
 encode-spec =
     tie.close
     (tie.spec
-    encode-test-requires
+    coding-test-requires
     enum-known-call
     encode-array-requires
     enum-known-call-2

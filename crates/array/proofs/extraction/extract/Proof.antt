@@ -3,14 +3,14 @@
 use mathlib.Core.Path.{sym, _∙_}
 use Rattle.line.proofs.Refusing.{given-taken, given-refused}
 use Rattle.array.specs.Encoding.{extracted}
-use Rattle.array.specs.Refusals.{extractTests}
-use Rattle.array.proofs.Refusing.{extract-taken}
+use Rattle.array.specs.Refusals.{codingTests}
+use Rattle.array.proofs.Refusing.{coding-taken}
 use borrow.Author.Needs.{needs}
 use Rattle.array.proofs.extraction.extract.Statement.{statement}
 use Rattle.array.proofs.extraction.extract.Tie as tie
 
-extract-test-requires : tie.Need-extract-test-requires
-extract-test-requires c κs = search needs
+coding-test-requires : tie.Need-coding-test-requires
+coding-test-requires c κs = search needs
 
 enum-known-call : tie.Need-enum-known-call
 enum-known-call c = search needs
@@ -19,7 +19,8 @@ extract-message-requires : tie.Need-extract-message-requires
 extract-message-requires c κs =
     let q = c .before .before in
     let s = q .before .before .before .before .before .before .args in
-    extract-taken (s .degree) (s .cells .now) (s .message .now) (q .call .given .0 .0) (rw (q .call .given .1) at (q .before .before .extract-test .ensures))
+    let t = coding-taken 2 (s .degree) (s .message .now) (s .cells .now) (s .cells .now) (q .call .given .0 .0) (rw (q .call .given .1) at (q .before .before .coding-test .ensures)) in
+    (t .1, t .0)
 
 enum-known-call-2 : tie.Need-enum-known-call-2
 enum-known-call-2 c = search needs
@@ -34,10 +35,10 @@ returns : tie.Need-returns
 returns c =
     let q = c .before .before .before .before .before in
     let s = q .before .before .before .before .before .before .args in
-    let h = rw (q .call .given .1) at (q .before .before .extract-test .ensures) in
+    let h = rw (q .call .given .1) at (q .before .before .coding-test .ensures) in
     record {
       refusal = sym (h .0);
-      message = c .before .before .extract-message .ensures ∙ sym (given-taken (extractTests (s .degree) (s .cells .now) (s .message .now)) (s .degree) (λ d. extracted d (s .cells .now)) (s .message .now) h);
+      message = c .before .before .extract-message .ensures ∙ sym (given-taken (codingTests 2 (s .degree) (s .message .now) (s .cells .now) (s .cells .now)) (s .degree) (λ d. extracted d (s .cells .now)) (s .message .now) h);
     }
 
 same-length-2 : tie.Need-same-length-2
@@ -47,17 +48,17 @@ returns-2 : tie.Need-returns-2
 returns-2 c =
     let q = c .before .before in
     let s = q .before .before .before .before .before .before .args in
-    let h = rw (q .call2 .given .1) at (q .before .before .extract-test .ensures) in
+    let h = rw (q .call2 .given .1) at (q .before .before .coding-test .ensures) in
     record {
       refusal = c .number-of .ensures ∙ h;
-      message = sym (given-refused (extractTests (s .degree) (s .cells .now) (s .message .now)) (s .degree) (λ d. extracted d (s .cells .now)) (s .message .now) (q .call2 .given .0 .0) h);
+      message = sym (given-refused (codingTests 2 (s .degree) (s .message .now) (s .cells .now) (s .cells .now)) (s .degree) (λ d. extracted d (s .cells .now)) (s .message .now) (q .call2 .given .0 .0) h);
     }
 
 pub extract-spec : {M : Type 1} → statement M
 extract-spec =
     tie.close
     (tie.spec
-    extract-test-requires
+    coding-test-requires
     enum-known-call
     extract-message-requires
     enum-known-call-2
