@@ -139,13 +139,6 @@ fn fresh_cell(d: Degree, z: Line, k: u32, filling: Word, count: u64, tables: &Li
     }
 }
 
-// A message that costs no further decoding.
-fn at_no_cost(cell: u64, count: u64) -> Settled
-    ensures { λ r. ⌜ (r .cell ≡ cell) × (r .count ≡ count) ⌝ }
-{
-    Settled { cell, count }
-}
-
 // The clauses of document 01, in its order.
 fn settle(d: Degree, v: Clause, k: u32, b: Base, count: u64, tables: &LineTables) -> Settled
     requires { ⌜ (k < width) × (count < 800) × TablesOf d (now tables) ⌝ }
@@ -154,15 +147,27 @@ fn settle(d: Degree, v: Clause, k: u32, b: Base, count: u64, tables: &LineTables
     let c = cell_at(b.channel, k);
     let z = put(b.incoming, k, c);
     match v {
-        Clause::Equal => at_no_cost(cell_at(b.own, k), count),
-        Clause::Crowded => at_no_cost(2, count),
-        Clause::Both => at_no_cost(answer_at(z, choose(z, b.one.tried, b.two.tried), k), count),
-        Clause::Neither => at_no_cost(c, count),
-        Clause::Agreeing(s) => at_no_cost(answer_at(z, tried_of(b, s), k), count),
-        Clause::Unchanged(s) => at_no_cost(answer_at(z, tried_of(b, s), k), count),
+        Clause::Equal => Settled {
+            cell: cell_at(b.own, k),
+            count,
+        },
+        Clause::Crowded => Settled { cell: 2, count },
+        Clause::Both => Settled {
+            cell: answer_at(z, choose(z, b.one.tried, b.two.tried), k),
+            count,
+        },
+        Clause::Neither => Settled { cell: c, count },
+        Clause::Agreeing(s) => Settled {
+            cell: answer_at(z, tried_of(b, s), k),
+            count,
+        },
+        Clause::Unchanged(s) => Settled {
+            cell: answer_at(z, tried_of(b, s), k),
+            count,
+        },
         Clause::Open(s) => open_cell(d, z, c, k, s, b, count, tables),
         Clause::Afresh => fresh_cell(d, z, k, b.filling, count, tables),
-        Clause::Channel => at_no_cost(c, count),
+        Clause::Channel => Settled { cell: c, count },
     }
 }
 

@@ -28,65 +28,47 @@ module _ (c : tie.After-put) {ys rs : List ℕ} {f : ℕ} (hk : c .before .befor
 returns : tie.Need-returns
 unfolding settled
 returns c = (
-  omega (arith, c .at-no-cost .ensures .1),
+  omega arith,
   λ ys rs f hk B g.
-      let t = c .before .before .enum-told .given .1 in
-      let own = equal-cell hk B (sym t ∙ g) (c .before .cell-at2 .ensures .1 _ _ (B .own)) in
-      rw t (c .at-no-cost .ensures .0 ∙ own, omega (arith, c .at-no-cost .ensures .1)),
+      let t = c .before .enum-told .given .1 in
+      rw t (equal-cell hk B (sym t ∙ g) (c .cell-at2 .ensures .1 _ _ (B .own)), omega arith),
 )
 
 returns-2 : tie.Need-returns-2
 unfolding settled
-returns-2 c = (
-  omega (arith, c .at-no-cost2 .ensures .1),
-  λ ys rs f hk B g.
-      let t = c .before .enum-told2 .given .1 in
-      rw t (c .at-no-cost2 .ensures .0, omega (arith, c .at-no-cost2 .ensures .1)),
-)
+returns-2 c = (omega arith, λ ys rs f hk B g. rw (c .enum-told2 .given .1) (refl, omega arith))
 
 returns-3 : tie.Need-returns-3
 unfolding settled
 returns-3 c = (
-  omega (arith, c .at-no-cost3 .ensures .1),
+  omega arith,
   λ ys rs f hk B g.
-      let t = c .before .before .before .enum-told3 .given .1 in
+      let t = c .before .before .enum-told3 .given .1 in
       let h = sym t ∙ g in
-      let z = line (c .before .before .before .before .before) hk B in
-      let best = c .before .before .choose .ensures _ _ _ _ z (tried-at hk B h refl One refl) (tried-at hk B h refl Two refl) in
-      rw t (c .at-no-cost3 .ensures .0 ∙ c .before .answer-at .ensures _ _ _ z best, omega (arith, c .at-no-cost3 .ensures .1)),
+      let z = line (c .before .before .before .before) hk B in
+      rw t (c .answer-at .ensures _ _ _ z (c .before .choose .ensures _ _ _ _ z (tried-at hk B h refl One refl) (tried-at hk B h refl Two refl)), omega arith),
 )
 
 returns-4 : tie.Need-returns-4
 unfolding settled
-returns-4 c = (
-  omega (arith, c .at-no-cost4 .ensures .1),
-  λ ys rs f hk B g.
-      let t = c .before .enum-told4 .given .1 in
-      rw t (c .at-no-cost4 .ensures .0 ∙ channel (c .before .before .before) hk B, omega (arith, c .at-no-cost4 .ensures .1)),
-)
+returns-4 c = (omega arith, λ ys rs f hk B g. rw (c .enum-told4 .given .1) (channel (c .before .before) hk B, omega arith))
 
 returns-5 : tie.Need-returns-5
 unfolding settled
 returns-5 c = (
-  omega (arith, c .at-no-cost5 .ensures .1),
+  omega arith,
   λ ys rs f hk B g.
-      let v = c .before .before .before .before .v .given in
-      let h = sym (v .1) ∙ g in
-      let z = line (c .before .before .before .before .before .before) hk B in
-      let found = tried-at hk B h refl (v .0 .0) (c .before .before .tried-of .ensures) in
-      rw (v .1) (c .at-no-cost5 .ensures .0 ∙ c .before .answer-at2 .ensures _ _ _ z found, omega (arith, c .at-no-cost5 .ensures .1)),
+      let v = c .before .before .before .v .given in
+      rw (v .1) (c .answer-at2 .ensures _ _ _ (line (c .before .before .before .before .before) hk B) (tried-at hk B (sym (v .1) ∙ g) refl (v .0 .0) (c .before .tried-of .ensures)), omega arith),
 )
 
 returns-6 : tie.Need-returns-6
 unfolding settled
 returns-6 c = (
-  omega (arith, c .at-no-cost6 .ensures .1),
+  omega arith,
   λ ys rs f hk B g.
-      let v = c .before .before .before .before .v2 .given in
-      let h = sym (v .1) ∙ g in
-      let z = line (c .before .before .before .before .before .before) hk B in
-      let found = tried-at hk B h refl (v .0 .0) (c .before .before .tried-of2 .ensures) in
-      rw (v .1) (c .at-no-cost6 .ensures .0 ∙ c .before .answer-at3 .ensures _ _ _ z found, omega (arith, c .at-no-cost6 .ensures .1)),
+      let v = c .before .before .before .v2 .given in
+      rw (v .1) (c .answer-at3 .ensures _ _ _ (line (c .before .before .before .before .before) hk B) (tried-at hk B (sym (v .1) ∙ g) refl (v .0 .0) (c .before .tried-of2 .ensures)), omega arith),
 )
 
 returns-7 : tie.Need-returns-7
@@ -95,9 +77,8 @@ returns-7 c = (
   omega arith,
   λ ys rs f hk B g.
       let t = c .before .before .v3 .given .1 in
-      let h = sym t ∙ g in
-      let z = line (c .before .before .before .before) hk B in
-      rw t (c .open-cell .ensures .1 ys rs f hk B (few-of hk B h refl) z (channel (c .before .before .before .before) hk B), omega arith),
+      let put = c .before .before .before .before in
+      rw t (c .open-cell .ensures .1 ys rs f hk B (few-of hk B (sym t ∙ g) refl) (line put hk B) (channel put hk B), omega arith),
 )
 
 returns-8 : tie.Need-returns-8
@@ -112,12 +93,7 @@ returns-8 c = (
 
 returns-9 : tie.Need-returns-9
 unfolding settled
-returns-9 c = (
-  omega (arith, c .at-no-cost7 .ensures .1),
-  λ ys rs f hk B g.
-      let t = c .before .enum-told6 .given .1 in
-      rw t (c .at-no-cost7 .ensures .0 ∙ channel (c .before .before .before) hk B, omega (arith, c .at-no-cost7 .ensures .1)),
-)
+returns-9 c = (omega arith, λ ys rs f hk B g. rw (c .enum-told6 .given .1) (channel (c .before .before) hk B, omega arith))
 
 pub settle-spec : {M : Type 1} → statement M
 settle-spec =
@@ -127,21 +103,15 @@ settle-spec =
     (λ c κs. search needs)
     (λ c. search needs)
     (λ c κs. search needs)
-    (λ c κs. search needs)
     (λ c. search needs)
-    (λ c κs. search needs)
-    (λ c. search needs)
-    (λ c κs. search needs)
-    (λ c κs. search needs)
-    (λ c κs. search needs)
-    (λ c. search needs)
-    (λ c κs. search needs)
     (λ c. search needs)
     (λ c κs. search needs)
     (λ c κs. search needs)
-    (λ c κs. search needs)
+    (λ c. search needs)
     (λ c. search needs)
     (λ c κs. search needs)
+    (λ c κs. search needs)
+    (λ c. search needs)
     (λ c κs. search needs)
     (λ c κs. search needs)
     (λ c. search needs)
@@ -149,7 +119,6 @@ settle-spec =
     (λ c. search needs)
     (λ c κs. search needs)
     (λ c. search needs)
-    (λ c κs. search needs)
     returns
     returns-2
     returns-3
