@@ -1,164 +1,111 @@
-// Arrays: the plain decoding, as document 01 sets it out, and what is told of its end. Cells lie row after row.
-use crate::counting::count_if;
-use crate::lines::count;
+// Arrays: the plain decoding, as document 01 sets it out, and what is told of its end. Cells lie row after row. Lines 0 to n - 1 are
+// the rows, lines n to 2n - 1 the columns.
+use crate::codewords::syndrome;
 use crate::lines::messages;
-use crate::words::syndrome;
 use std::num::wrapping_add_u64;
-ghost use Prim.Native.Nat.{_≤_, _<_};
-
-// The place of a cell. (The remainders change nothing: they tell the checker that it is within the array.)
-pub fn place(n: usize, row: usize, column: usize) -> usize
-    ensures { λ r. ⌜ r < 4096 ⌝ }
-{
-    if n == 16 {
-        (row % 64) * 16 + column % 64
-    } else {
-        (row % 64) * 64 + column % 64
-    }
-}
+use words::copying::copy_cells;
+ghost use Prim.Native.Nat.{_≤_, _<_, _*_};
+ghost use mathlib.Core.Path.{_≡_};
+ghost use lib.ListN.{length};
 
 // The cells of an array.
 pub fn area_of(n: usize) -> usize
-    ensures { λ r. ⌜ (256 ≤ r) × (r ≤ 4096) ⌝ }
+    requires { ⌜ (0 < n) × (n ≤ 64) ⌝ }
+    ensures { λ r. ⌜ (r ≡ n * n) × (0 < r) × (r ≤ 4096) ⌝ }
 {
-    if n == 16 { 256 } else { 4096 }
+    n * n
 }
 
-// Cell j of line i, which is a row or a column.
-fn line_place(n: usize, columns: bool, i: usize, j: usize) -> usize
-    ensures { λ r. ⌜ r < 4096 ⌝ }
+// The place of cell j of line i.
+fn place(n: usize, i: usize, j: usize) -> usize
+    requires { ⌜ (n ≤ 64) × (i < 128) × (j < n) ⌝ }
 {
-    if columns {
-        place(n, j, i)
-    } else {
-        place(n, i, j)
-    }
+    if i < n { i * n + j } else { j * n + (i - n) }
 }
 
-pub fn take_line(n: usize, columns: bool, i: usize, cells: &[u8; 4096], line: &mut [u8; 64])
-    requires { ⌜ n ≤ 64 ⌝ }
+// Line i of an array. (The remainder changes nothing: it tells the checker that the place is within the array.)
+pub fn take_line(i: usize, cells: &[u8], line: &mut [u8])
+    requires { ⌜ (i < 128) × (0 < length (now cells)) × (length (now line) ≤ 64) ⌝ }
+    ensures { λ _. ⌜ length (now (line .exit)) ≡ length (now (line .entry)) ⌝ }
 {
+    let n = line.len();
+    let area = cells.len();
     for j in 0..n {
-        line[j] = cells[line_place(n, columns, i, j)];
+        line[j] = cells[place(n, i, j) % area];
     }
 }
 
-pub fn put_line(n: usize, columns: bool, i: usize, line: &[u8; 64], cells: &mut [u8; 4096])
-    requires { ⌜ n ≤ 64 ⌝ }
+pub fn put_line(i: usize, line: &[u8], cells: &mut [u8])
+    requires { ⌜ (i < 128) × (0 < length (now cells)) × (length (now line) ≤ 64) ⌝ }
+    ensures { λ _. ⌜ length (now (cells .exit)) ≡ length (now (cells .entry)) ⌝ }
 {
+    let n = line.len();
+    let area = cells.len();
     for j in 0..n {
-        cells[line_place(n, columns, i, j)] = line[j];
+        cells[place(n, i, j) % area] = line[j];
     }
-}
-
-pub fn copy_array(from: &[u8; 4096], to: &mut [u8; 4096]) {
-    for i in 0..4096 {
-        to[i] = from[i];
-    }
-}
-
-// The filling word of line i in half h: in order of halves and then of lines.
-fn word_place(n: usize, h: usize, i: usize) -> usize
-    requires { ⌜ (h < 40) × (i < 64) ⌝ }
-    ensures { λ r. ⌜ r < 2560 ⌝ }
-{
-    if n == 16 { h * 16 + i } else { h * 64 + i }
 }
 
 // Line i of the new sheet, from line i of the sheet before the half and of the received one; gives the line's count.
-fn half_line(
-    n: usize,
-    weights: &[u16; 64],
-    columns: bool,
+fn renew_line(
+    weights: &[u16],
     i: usize,
-    before: &[u8; 4096],
-    received: &[u8; 4096],
+    received: &[u8],
     filling: u64,
-    after: &mut [u8; 4096],
+    cells: &mut [u8],
     met: &mut [u64; 16],
 ) -> u64
-    requires { ⌜ n ≤ 64 ⌝ }
+    requires { ⌜ (length (now weights) ≤ 64) × (i < 128) × (0 < length (now received)) × (0 < length (now cells)) ⌝ }
+    ensures { λ _. ⌜ length (now (cells .exit)) ≡ length (now (cells .entry)) ⌝ }
 {
-    let mut incoming = [0u8; 64];
-    let mut channel = [0u8; 64];
-    let mut sent = [0u8; 64];
-    take_line(n, columns, i, before, &mut incoming);
-    take_line(n, columns, i, received, &mut channel);
-    messages(n, weights, &incoming, &channel, filling, &mut sent);
-    put_line(n, columns, i, &sent, after);
-    count(n, weights, &incoming, &channel, filling, met)
+    let n = weights.len();
+    let mut room = [0u8; 64];
+    let mut other_room = [0u8; 64];
+    let mut third_room = [0u8; 64];
+    let incoming = &mut room[..n];
+    let channel = &mut other_room[..n];
+    let sent = &mut third_room[..n];
+    take_line(i, cells, incoming);
+    take_line(i, received, channel);
+    let count = messages(weights, incoming, channel, filling, sent, met);
+    put_line(i, sent, cells);
+    count
 }
 
-// Half h of the plain decoding: rows first, then columns, by turns. All of the new sheet is made from the sheet as it stood
-// before the half.
-fn half(
-    n: usize,
-    weights: &[u16; 64],
-    h: usize,
-    received: &[u8; 4096],
-    filling: &[u64; 2560],
-    cells: &mut [u8; 4096],
-    met: &mut [u64; 16],
-) -> u64
-    requires { ⌜ (n ≤ 64) × (h < 40) ⌝ }
-{
-    let before = *cells;
-    let columns = h % 2 == 1;
-    let mut sum: u64 = 0;
-    for i in 0..n {
-        let word = filling[word_place(n, h, i)];
-        let line = half_line(n, weights, columns, i, &before, received, word, cells, met);
-        sum = wrapping_add_u64(sum, line);
-    }
-    sum
-}
-
-// The plain decoding; gives the count.
+// The plain decoding; gives the count. The filling words are in order of halves and then of lines, so each serves the next line: rows,
+// then columns, and again. The lines of a half share no cell, so each stands as it was before the half until its turn.
 pub fn decode(
-    n: usize,
-    weights: &[u16; 64],
-    halves: usize,
-    received: &[u8; 4096],
-    filling: &[u64; 2560],
-    cells: &mut [u8; 4096],
+    weights: &[u16],
+    received: &[u8],
+    filling: &[u64],
+    cells: &mut [u8],
     met: &mut [u64; 16],
 ) -> u64
-    requires { ⌜ (n ≤ 64) × (halves ≤ 40) ⌝ }
+    requires { ⌜ (0 < length (now weights)) × (length (now weights) ≤ 64) × (0 < length (now received)) × (length (now cells) ≡ length (now received)) ⌝ }
+    ensures { λ _. ⌜ length (now (cells .exit)) ≡ length (now (cells .entry)) ⌝ }
 {
-    copy_array(received, cells);
+    copy_cells(received, cells);
+    let lines = 2 * weights.len();
+    let many = filling.len();
     let mut sum: u64 = 0;
-    for h in 0..halves {
-        sum = wrapping_add_u64(sum, half(n, weights, h, received, filling, cells, met));
+    for w in 0..many {
+        let count = renew_line(weights, w % lines, received, filling[w], cells, met);
+        sum = wrapping_add_u64(sum, count);
     }
     sum
 }
 
-// The cells still unsure.
-pub fn array_erasures(n: usize, cells: &[u8; 4096]) -> u64 {
-    let area = area_of(n);
-    let mut many: u64 = 0;
-    for i in 0..area {
-        many = count_if(many, cells[i] == 2);
-    }
-    many
-}
-
-// Column j is a codeword.
-fn column_is_codeword(n: usize, weights: &[u16; 64], j: usize, cells: &[u8; 4096]) -> bool
-    requires { ⌜ n ≤ 64 ⌝ }
+// Every column is a codeword.
+pub fn are_codewords(weights: &[u16], cells: &[u8]) -> bool
+    requires { ⌜ (length (now weights) ≤ 64) × (0 < length (now cells)) ⌝ }
 {
-    let mut line = [0u8; 64];
-    take_line(n, true, j, cells, &mut line);
-    syndrome(n, weights, &line) == 0
-}
-
-// No cell is unsure and every column is a codeword.
-pub fn is_closed(n: usize, weights: &[u16; 64], cells: &[u8; 4096]) -> bool
-    requires { ⌜ n ≤ 64 ⌝ }
-{
-    let mut all = array_erasures(n, cells) == 0;
+    let n = weights.len();
+    let mut room = [0u8; 64];
+    let line = &mut room[..n];
+    let mut all = true;
     for j in 0..n {
-        all = column_is_codeword(n, weights, j, cells) & all;
+        take_line(n + j, cells, line);
+        all = all & (syndrome(weights, line) == 0);
     }
     all
 }

@@ -1,8 +1,11 @@
 // A generator of pseudo-random numbers: the same on every run.
 ghost use Prim.Native.Nat.{_≤_, _<_};
+ghost use mathlib.Core.Path.{_≡_};
 
 // The next 64 bits, by Marsaglia's shifts of 13, 7 and 17.
-pub fn draw(state: &mut u64) -> u64 {
+pub fn draw(state: &mut u64) -> u64
+    ensures { λ r. ⌜ now (state .exit) ≡ r ⌝ }
+{
     let a = *state ^ (*state << 13);
     let b = a ^ (a >> 7);
     let c = b ^ (b << 17);

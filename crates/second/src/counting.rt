@@ -1,14 +1,7 @@
-// Counts, and sums of results. They wrap, so that nothing has to be known of them; no count comes near 2^64.
+// Comparing, and sums of results. Counts wrap, so that nothing has to be known of them; none comes near 2^64.
 use std::num::wrapping_add_u64;
-
-// One more where the fact holds.
-pub fn count_if(count: u64, fact: bool) -> u64 {
-    if fact {
-        wrapping_add_u64(count, 1)
-    } else {
-        count
-    }
-}
+ghost use mathlib.Core.Path.{_≡_};
+ghost use mathlib.Core.Bool.{false};
 
 // A sum of all the numbers mixed into it so far, in their order: it tells two runs apart that saw different results.
 pub fn mix(sum: u64, value: u64) -> u64 {
@@ -22,42 +15,44 @@ pub fn mix(sum: u64, value: u64) -> u64 {
 // numbers of the test's own.
 pub const OWN: usize = 4;
 
-pub fn note(tally: &mut [u64; 16], agreed: bool, result: u64) {
-    tally[0] = count_if(tally[0], true);
-    tally[1] = count_if(tally[1], agreed);
-    tally[2] = count_if(tally[2], !agreed);
-    tally[3] = mix(tally[3], result);
-}
-
-pub fn tick_if(tally: &mut [u64; 16], place: usize, fact: bool) {
-    if place < 16 {
-        tally[place] = count_if(tally[place], fact);
+// One more at a place where the fact holds.
+pub fn tick_if(tally: &mut [u64; 16], place: usize, fact: bool)
+    ensures { λ _. ⌜ (fact ≡ false → now (tally .exit) ≡ now (tally .entry)) ⌝ }
+{
+    if fact {
+        let at = place % 16;
+        tally[at] = wrapping_add_u64(tally[at], 1);
     }
 }
 
-// Are all cells the same?
-pub fn same(one: &[u8], other: &[u8]) -> bool {
-    if one.len() != other.len() {
-        return false;
-    }
-    let long = one.len();
-    let mut all = true;
-    for i in 0..long {
-        all = (one[i] == other[i]) & all;
-    }
-    all
+// A cell of a room, which is 0 past the cells that are lent.
+fn cell_at(cells: &[u8], i: usize) -> u64 {
+    if i < cells.len() { wide(cells[i]) } else { 0 }
 }
 
 fn wide(cell: u8) -> u64 {
     cell as u64
 }
 
-// The sum of a number and of all cells.
-pub fn mix_cells(number: u64, cells: &[u8]) -> u64 {
+// Compares the cells that the second implementation and a proved entry leave in a room of so many cells, and notes whether they
+// agree, and the numbers beside them. The result is a number and the given cells.
+pub fn note(
+    tally: &mut [u64; 16],
+    own: &[u8],
+    given: &[u8],
+    room: usize,
+    numbers_agree: bool,
+    number: u64,
+) {
+    let mut agreed = numbers_agree;
     let mut sum = number;
-    let long = cells.len();
-    for i in 0..long {
-        sum = mix(sum, wide(cells[i]));
+    for i in 0..room {
+        let cell = cell_at(given, i);
+        agreed = agreed & (cell_at(own, i) == cell);
+        sum = mix(sum, cell);
     }
-    sum
+    tick_if(tally, 0, true);
+    tick_if(tally, 1, agreed);
+    tick_if(tally, 2, !agreed);
+    tally[3] = mix(tally[3], sum);
 }

@@ -1,80 +1,66 @@
 // Damage by chance: cells that are wrong, and cells that are unsure.
-use crate::arrays::area_of;
 use crate::arrays::put_line;
 use crate::arrays::take_line;
 use crate::chance::below;
 ghost use Prim.Native.Nat.{_≤_, _<_};
+ghost use mathlib.Core.Path.{_≡_};
+ghost use lib.ListN.{length};
 
 // ---- one line
 
-// A cell number, brought back into the line.
-fn around(n: usize, cell: usize) -> usize
-    ensures { λ r. ⌜ r < 64 ⌝ }
-{
-    if n == 16 { cell % 16 } else { cell % 64 }
-}
+// What becomes of a cell that is hit. It is flipped: one that is hit twice is right again, and an unsure one stays unsure. Or it becomes
+// any bit, or any cell. Or the first known cell from there on, round the end of the line, becomes unsure.
+pub const FLIPPED: usize = 0;
 
-// The first known cell from a place on, round the end of the line, becomes unsure.
-fn erase_from(n: usize, from: usize, line: &mut [u8; 64])
-    requires { ⌜ from < 64 ⌝ }
-{
-    for step in 0..64 {
-        let i = around(n, from + step);
-        if line[i] != 2 {
-            line[i] = 2;
-            return;
-        }
-    }
-}
+pub const ANY_BIT: usize = 1;
 
-// So many known cells become unsure, or all of them where there are fewer.
-pub fn erase(n: usize, many: usize, state: &mut u64, line: &mut [u8; 64]) {
-    for _ in 0..many {
-        let from = below(state, 64);
-        erase_from(n, from, line);
+pub const ANY_CELL: usize = 2;
+
+pub const UNSURE: usize = 3;
+
+fn erase_from(from: usize, line: &mut [u8])
+    requires { ⌜ from < length (now line) ⌝ }
+    ensures { λ _. ⌜ length (now (line .exit)) ≡ length (now (line .entry)) ⌝ }
+{
+    let n = line.len();
+    let mut i = from;
+    let mut left = n;
+    while 0 < left && line[i] == 2 {
+        i = (i + 1) % n;
+        left -= 1;
     }
+    line[i] = 2;
 }
 
 // The other value of a known cell.
 fn flipped(cell: u8) -> u8 {
-    if cell == 0 {
-        1
-    } else if cell == 1 {
-        0
-    } else {
-        cell
-    }
+    if cell == 2 { 2 } else { cell ^ 1 }
 }
 
-// So many cells are flipped: one that is hit twice is right again, and an unsure one stays unsure.
-pub fn flip_some(n: usize, many: usize, state: &mut u64, line: &mut [u8; 64]) {
-    for _ in 0..many {
-        let i = around(n, below(state, 64));
+fn hit(how: usize, i: usize, state: &mut u64, line: &mut [u8])
+    requires { ⌜ i < length (now line) ⌝ }
+    ensures { λ _. ⌜ length (now (line .exit)) ≡ length (now (line .entry)) ⌝ }
+{
+    if how == UNSURE {
+        erase_from(i, line);
+    } else if how == FLIPPED {
         line[i] = flipped(line[i]);
+    } else {
+        let drawn = below(state, 6) as u8;
+        line[i] = if how == ANY_BIT { drawn % 2 } else { drawn % 3 };
     }
 }
 
-// So many cells become any cell below a bound: 2 for words, 3 for lines.
-pub fn change_some(n: usize, many: usize, bound: u64, state: &mut u64, line: &mut [u8; 64]) {
+// So many cells are hit.
+pub fn hit_some(how: usize, many: usize, state: &mut u64, line: &mut [u8])
+    requires { ⌜ 0 < length (now line) ⌝ }
+    ensures { λ _. ⌜ length (now (line .exit)) ≡ length (now (line .entry)) ⌝ }
+{
+    let n = line.len();
     for _ in 0..many {
-        let i = around(n, below(state, 64));
-        let drawn = (below(state, 6) % 6) as u8;
-        line[i] = if bound == 2 { drawn % 2 } else { drawn % 3 };
+        let i = below(state, 64) % n;
+        hit(how, i, state, line);
     }
-}
-
-// How many cells are to be unsure: mostly near 6, where line decoding gives up.
-pub fn some_erasures(state: &mut u64) -> usize {
-    let kind = below(state, 8);
-    if kind == 1 { below(state, 64) } else { kind }
-}
-
-// Within the condition under which a line is restored: twice the wrong cells plus the unsure ones is below 6.
-fn damage_within(n: usize, state: &mut u64, line: &mut [u8; 64]) {
-    let wrong = below(state, 3);
-    let unsure = below(state, 6 - 2 * wrong);
-    flip_some(n, wrong, state, line);
-    erase(n, unsure, state, line);
 }
 
 // ---- an array
@@ -98,70 +84,96 @@ pub const ROWS_REVERSED: usize = 6;
 
 const WRONG: [usize; 17] = [0, 0, 0, 0, 0, 0, 0, 0, 1, 4, 1, 0, 0, 1, 2, 3, 0];
 
-const UNSURE: [usize; 17] = [0, 0, 0, 0, 0, 0, 0, 0, 0, 0, 2, 8, 64, 5, 3, 0, 4];
+const ERASED: [usize; 17] = [0, 0, 0, 0, 0, 0, 0, 0, 0, 0, 2, 8, 64, 5, 3, 0, 4];
 
-fn damage_line(n: usize, kind: usize, i: usize, state: &mut u64, line: &mut [u8; 64]) {
-    if (kind == ROWS_AT_THE_LIMIT) | (kind == COLUMNS_AT_THE_LIMIT) {
-        erase(n, 5 + i % 3, state, line);
+fn damage_line(kind: usize, i: usize, state: &mut u64, line: &mut [u8])
+    requires { ⌜ 0 < length (now line) ⌝ }
+    ensures { λ _. ⌜ length (now (line .exit)) ≡ length (now (line .entry)) ⌝ }
+{
+    if kind <= COLUMNS_AT_THE_LIMIT {
+        hit_some(UNSURE, 5 + i % 3, state, line);
     } else if (kind == ALL_BY_CHANCE) | ((kind == SOME_ROWS_LOST) & (i % 5 == 0)) {
-        change_some(n, 200, 3, state, line);
+        hit_some(ANY_CELL, 200, state, line);
     } else {
-        damage_within(n, state, line);
+        // within the condition under which a line is restored: twice the wrong cells plus the unsure ones is below 6
+        let wrong = below(state, 3);
+        let erased = below(state, 6 - 2 * wrong);
+        hit_some(FLIPPED, wrong, state, line);
+        hit_some(UNSURE, erased, state, line);
     }
 }
 
-fn damage_lines(n: usize, kind: usize, state: &mut u64, cells: &mut [u8; 4096])
-    requires { ⌜ n ≤ 64 ⌝ }
+// The first of the rows or of the columns.
+fn first_line(n: usize, columns: bool) -> usize
+    ensures { λ r. ⌜ r ≤ n ⌝ }
 {
-    let columns = kind == COLUMNS_AT_THE_LIMIT;
+    if columns { n } else { 0 }
+}
+
+fn damage_lines(n: usize, kind: usize, state: &mut u64, cells: &mut [u8])
+    requires { ⌜ (0 < n) × (n ≤ 64) × (0 < length (now cells)) ⌝ }
+    ensures { λ _. ⌜ length (now (cells .exit)) ≡ length (now (cells .entry)) ⌝ }
+{
+    let first = first_line(n, kind == COLUMNS_AT_THE_LIMIT);
+    let mut room = [0u8; 64];
+    let line = &mut room[..n];
     for i in 0..n {
-        let mut line = [0u8; 64];
-        take_line(n, columns, i, cells, &mut line);
-        damage_line(n, kind, i, state, &mut line);
-        put_line(n, columns, i, &line, cells);
+        take_line(first + i, cells, line);
+        damage_line(kind, i, state, line);
+        put_line(first + i, line, cells);
     }
 }
 
 // The rows, or the columns, in reverse order: they are codewords still, and the lines of the other way mostly are not.
-fn reverse(n: usize, columns: bool, cells: &mut [u8; 4096])
-    requires { ⌜ n ≤ 64 ⌝ }
+fn reverse(n: usize, kind: usize, cells: &mut [u8])
+    requires { ⌜ (0 < n) × (n ≤ 64) × (0 < length (now cells)) ⌝ }
+    ensures { λ _. ⌜ length (now (cells .exit)) ≡ length (now (cells .entry)) ⌝ }
 {
-    let before = *cells;
-    for i in 0..n {
-        let mut line = [0u8; 64];
-        take_line(n, columns, i, &before, &mut line);
-        put_line(n, columns, n - 1 - i, &line, cells);
+    let first = first_line(n, kind == COLUMNS_REVERSED);
+    let last = first + n - 1;
+    let half = n / 2;
+    let mut room = [0u8; 64];
+    let mut other_room = [0u8; 64];
+    let line = &mut room[..n];
+    let other = &mut other_room[..n];
+    for i in 0..half {
+        take_line(first + i, cells, line);
+        take_line(last - i, cells, other);
+        put_line(first + i, other, cells);
+        put_line(last - i, line, cells);
     }
 }
 
-fn damage_cell(cell: u8, drawn: usize, wrong: usize, unsure: usize) -> u8 {
+fn damage_cell(cell: u8, drawn: usize, wrong: usize, erased: usize) -> u8 {
     if drawn < wrong {
         flipped(cell)
-    } else if drawn - wrong < unsure {
+    } else if drawn - wrong < erased {
         2
     } else {
         cell
     }
 }
 
-fn scatter(n: usize, wrong: usize, unsure: usize, state: &mut u64, cells: &mut [u8; 4096])
-    requires { ⌜ (0 < n) × (n ≤ 64) ⌝ }
+fn scatter(n: usize, wrong: usize, erased: usize, state: &mut u64, cells: &mut [u8])
+    requires { ⌜ 0 < n ⌝ }
+    ensures { λ _. ⌜ length (now (cells .exit)) ≡ length (now (cells .entry)) ⌝ }
 {
-    let area = area_of(n);
+    let area = cells.len();
     for i in 0..area {
         let drawn = below(state, n);
-        cells[i] = damage_cell(cells[i], drawn, wrong, unsure);
+        cells[i] = damage_cell(cells[i], drawn, wrong, erased);
     }
 }
 
-pub fn damage_array(n: usize, kind: usize, state: &mut u64, cells: &mut [u8; 4096])
-    requires { ⌜ (0 < n) × (n ≤ 64) × (kind < 17) ⌝ }
+pub fn damage_array(n: usize, kind: usize, state: &mut u64, cells: &mut [u8])
+    requires { ⌜ (0 < n) × (n ≤ 64) × (kind < 17) × (0 < length (now cells)) ⌝ }
+    ensures { λ _. ⌜ length (now (cells .exit)) ≡ length (now (cells .entry)) ⌝ }
 {
     if kind <= ALL_BY_CHANCE {
         damage_lines(n, kind, state, cells);
     } else if kind <= ROWS_REVERSED {
-        reverse(n, kind == COLUMNS_REVERSED, cells);
+        reverse(n, kind, cells);
     } else {
-        scatter(n, WRONG[kind], UNSURE[kind], state, cells);
+        scatter(n, WRONG[kind], ERASED[kind], state, cells);
     }
 }

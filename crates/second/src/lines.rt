@@ -1,146 +1,93 @@
 // Lines with unsure cells: line decoding, one decoding per cell for the messages, and the clause that each cell of a line falls
 // under, tested from its definition. A cell is 0, 1 or 2, and 2 is unsure.
-use crate::counting::count_if;
+use crate::codewords::bounded_distance;
 use crate::counting::tick_if;
-use crate::words::bounded_distance;
 use std::num::wrapping_add_u64;
+use words::copying::copy_cells;
 ghost use Prim.Native.Nat.{_≤_, _<_};
-
-// The filling word of word two.
-fn opposite(filling: u64) -> u64 {
-    filling ^ 0xFFFFFFFFFFFFFFFF
-}
+ghost use mathlib.Core.Path.{_≡_};
+ghost use lib.ListN.{length};
 
 // The line with its filling bit in each unsure cell: bit i of the filling word serves cell i.
-fn fill(n: usize, line: &[u8; 64], filling: u64, word: &mut [u8; 64])
-    requires { ⌜ n ≤ 64 ⌝ }
+fn fill(line: &[u8], filling: u64, word: &mut [u8])
+    requires { ⌜ (length (now line) ≤ 64) × (length (now word) ≡ length (now line)) ⌝ }
+    ensures { λ _. ⌜ length (now (word .exit)) ≡ length (now (word .entry)) ⌝ }
 {
+    let n = line.len();
     for i in 0..n {
-        word[i] = if line[i] == 2 {
+        let cell = line[i];
+        word[i] = if cell == 2 {
             ((filling >> i) % 2) as u8
         } else {
-            line[i]
+            cell
         };
     }
 }
 
-// The unsure cells of a line.
-pub fn erasures(n: usize, line: &[u8; 64]) -> u64
-    requires { ⌜ n ≤ 64 ⌝ }
+fn one_if(fact: bool) -> u64
+    ensures { λ r. ⌜ r ≤ 1 ⌝ }
 {
-    let mut many: u64 = 0;
-    for i in 0..n {
-        many = count_if(many, line[i] == 2);
-    }
-    many
+    if fact { 1 } else { 0 }
 }
 
-// The cells in which two words differ.
-fn distance(n: usize, word: &[u8; 64], other: &[u8; 64]) -> u64
-    requires { ⌜ n ≤ 64 ⌝ }
+// The unsure cells of a line or an array.
+pub fn unsure(cells: &[u8]) -> u64
+    ensures { λ r. ⌜ r ≤ length (now (cells .entry)) ⌝ }
 {
+    let n = cells.len();
     let mut many: u64 = 0;
     for i in 0..n {
-        many = count_if(many, word[i] != other[i]);
+        many += one_if(cells[i] == 2);
     }
     many
 }
 
 // The known cells of a line in which a word differs from it.
-fn known_differences(n: usize, line: &[u8; 64], word: &[u8; 64]) -> u64
-    requires { ⌜ n ≤ 64 ⌝ }
+fn differences(line: &[u8], word: &[u8]) -> u64
+    requires { ⌜ length (now word) ≡ length (now line) ⌝ }
 {
+    let n = line.len();
     let mut many: u64 = 0;
     for i in 0..n {
-        many = count_if(many, (line[i] != 2) & (line[i] != word[i]));
+        many += one_if((line[i] != 2) & (line[i] != word[i]));
     }
     many
 }
 
-pub fn copy(from: &[u8; 64], to: &mut [u8; 64]) {
-    for i in 0..64 {
-        to[i] = from[i];
-    }
-}
-
-// Line decoding of a line with fewer than 6 unsure cells, from the two filled words.
-fn decode_filled(
-    n: usize,
-    weights: &[u16; 64],
-    line: &[u8; 64],
-    one: &mut [u8; 64],
-    two: &mut [u8; 64],
-    out: &mut [u8; 64],
-) -> bool
-    requires { ⌜ n ≤ 64 ⌝ }
+// Decodes the word that a filling word makes of a line. A codeword with fewer than so many differences at the known cells is
+// written to `out`. Gives its differences; where there is none, the number that it was handed.
+fn decode_filled(weights: &[u16], line: &[u8], filling: u64, most: u64, out: &mut [u8]) -> u64
+    requires { ⌜ (length (now weights) ≤ 64) × (length (now line) ≡ length (now weights)) × (length (now out) ≡ length (now weights)) ⌝ }
+    ensures { λ _. ⌜ length (now (out .exit)) ≡ length (now (out .entry)) ⌝ }
 {
-    let found_one = bounded_distance(n, weights, one);
-    let found_two = bounded_distance(n, weights, two);
-    let two_is_closer = known_differences(n, line, two) < known_differences(n, line, one);
-    if found_one & !(found_two & two_is_closer) {
-        copy(one, out);
-        true
-    } else if found_two {
-        copy(two, out);
-        true
+    let n = weights.len();
+    let mut room = [0u8; 64];
+    let word = &mut room[..n];
+    fill(line, filling, word);
+    let found = bounded_distance(weights, word);
+    let wrong = differences(line, word);
+    if found & (wrong < most) {
+        copy_cells(word, out);
+        wrong
     } else {
-        copy(line, out);
+        most
+    }
+}
+
+// No line has so many cells.
+const NONE: u64 = 65;
+
+// Line decoding, written to `out`, and whether it succeeds. A line that fails is given back as it came. At a tie it is word one's.
+pub fn decode(weights: &[u16], line: &[u8], filling: u64, out: &mut [u8]) -> bool
+    requires { ⌜ (length (now weights) ≤ 64) × (length (now line) ≡ length (now weights)) × (length (now out) ≡ length (now weights)) ⌝ }
+    ensures { λ _. ⌜ length (now (out .exit)) ≡ length (now (out .entry)) ⌝ }
+{
+    copy_cells(line, out);
+    if unsure(line) < 6 {
+        let one = decode_filled(weights, line, filling, NONE, out);
+        decode_filled(weights, line, filling ^ 0xFFFFFFFFFFFFFFFF, one, out) < NONE
+    } else {
         false
-    }
-}
-
-// Line decoding, written to `out`, and whether it succeeds. A line that fails is given back as it came.
-pub fn decode(
-    n: usize,
-    weights: &[u16; 64],
-    line: &[u8; 64],
-    filling: u64,
-    out: &mut [u8; 64],
-) -> bool
-    requires { ⌜ n ≤ 64 ⌝ }
-{
-    if 6 <= erasures(n, line) {
-        copy(line, out);
-        return false;
-    }
-    let mut one = [0u8; 64];
-    let mut two = [0u8; 64];
-    fill(n, line, filling, &mut one);
-    fill(n, line, opposite(filling), &mut two);
-    decode_filled(n, weights, line, &mut one, &mut two, out)
-}
-
-// The message at cell k: cell k of the line decoding of the incoming line with cell k replaced by the channel's.
-fn message(
-    n: usize,
-    weights: &[u16; 64],
-    incoming: &[u8; 64],
-    channel: &[u8; 64],
-    filling: u64,
-    k: usize,
-) -> u8
-    requires { ⌜ (n ≤ 64) × (k < 64) ⌝ }
-{
-    let mut replaced = *incoming;
-    replaced[k] = channel[k];
-    let mut out = [0u8; 64];
-    decode(n, weights, &replaced, filling, &mut out);
-    out[k]
-}
-
-// All messages of a line, one decoding per cell.
-pub fn messages(
-    n: usize,
-    weights: &[u16; 64],
-    incoming: &[u8; 64],
-    channel: &[u8; 64],
-    filling: u64,
-    out: &mut [u8; 64],
-)
-    requires { ⌜ n ≤ 64 ⌝ }
-{
-    for k in 0..n {
-        out[k] = message(n, weights, incoming, channel, filling, k);
     }
 }
 
@@ -175,23 +122,19 @@ struct Filling {
     replaced_cell: u8,
 }
 
-fn filling_at(
-    n: usize,
-    weights: &[u16; 64],
-    incoming: &[u8; 64],
-    replaced: &[u8; 64],
-    filling: u64,
-    k: usize,
-) -> Filling
-    requires { ⌜ (n ≤ 64) × (k < 64) ⌝ }
+fn filling_at(weights: &[u16], incoming: &[u8], replaced: &[u8], filling: u64, k: usize) -> Filling
+    requires { ⌜ (length (now weights) ≤ 64) × (length (now incoming) ≡ length (now weights)) × (length (now replaced) ≡ length (now weights)) × (k < length (now weights)) ⌝ }
 {
-    let mut before = [0u8; 64];
-    let mut after = [0u8; 64];
-    fill(n, incoming, filling, &mut before);
-    fill(n, replaced, filling, &mut after);
-    let unchanged = distance(n, &before, &after) == 0;
-    let found = bounded_distance(n, weights, &mut before);
-    let near = distance(n, &before, &after) <= 2;
+    let n = weights.len();
+    let mut room = [0u8; 64];
+    let mut other_room = [0u8; 64];
+    let before = &mut room[..n];
+    let after = &mut other_room[..n];
+    fill(incoming, filling, before);
+    fill(replaced, filling, after);
+    let unchanged = differences(before, after) == 0;
+    let found = bounded_distance(weights, before);
+    let near = differences(before, after) <= 2;
     Filling {
         in_reach: found & near,
         unchanged: unchanged,
@@ -225,79 +168,78 @@ fn clause_by_reach(one: Filling, two: Filling, channel_cell: u8) -> usize {
     }
 }
 
-// Fewer than 6 unsure cells come in.
-fn clause_of_few(
-    n: usize,
-    weights: &[u16; 64],
-    incoming: &[u8; 64],
-    channel: &[u8; 64],
-    filling: u64,
-    k: usize,
-) -> usize
-    requires { ⌜ (n ≤ 64) × (k < 64) ⌝ }
+// The clause that settles cell k: the first that fits. `replaced` is the incoming line with the channel's cell k.
+fn clause(weights: &[u16], incoming: &[u8], replaced: &[u8], filling: u64, k: usize) -> usize
+    requires { ⌜ (length (now weights) ≤ 64) × (length (now incoming) ≡ length (now weights)) × (length (now replaced) ≡ length (now weights)) × (k < length (now weights)) ⌝ }
 {
-    if incoming[k] == channel[k] {
-        return EQUAL;
-    }
-    let mut replaced = *incoming;
-    replaced[k] = channel[k];
-    if erasures(n, &replaced) == 6 {
-        return CROWDED;
-    }
-    let one = filling_at(n, weights, incoming, &replaced, filling, k);
-    let two = filling_at(n, weights, incoming, &replaced, opposite(filling), k);
-    clause_by_reach(one, two, channel[k])
-}
-
-// The clause that settles cell k: the first that fits.
-pub fn clause(
-    n: usize,
-    weights: &[u16; 64],
-    incoming: &[u8; 64],
-    channel: &[u8; 64],
-    filling: u64,
-    k: usize,
-) -> usize
-    requires { ⌜ (n ≤ 64) × (k < 64) ⌝ }
-{
-    let coming = erasures(n, incoming);
-    if coming < 6 {
-        clause_of_few(n, weights, incoming, channel, filling, k)
-    } else if (coming == 6) & (incoming[k] == 2) & (channel[k] != 2) {
-        AFRESH
-    } else {
+    let coming = unsure(incoming);
+    if 6 < coming {
         CHANNEL
-    }
-}
-
-// The decodings that a cell adds to the two of its line.
-fn cost(clause: usize) -> u64 {
-    if clause == OPEN {
-        1
-    } else if clause == AFRESH {
-        2
+    } else if coming == 6 {
+        if (incoming[k] == 2) & (replaced[k] != 2) {
+            AFRESH
+        } else {
+            CHANNEL
+        }
+    } else if incoming[k] == replaced[k] {
+        EQUAL
+    } else if unsure(replaced) == 6 {
+        CROWDED
     } else {
-        0
+        let one = filling_at(weights, incoming, replaced, filling, k);
+        let two = filling_at(weights, incoming, replaced, filling ^ 0xFFFFFFFFFFFFFFFF, k);
+        clause_by_reach(one, two, replaced[k])
     }
 }
 
-// The count of a line: 2 if fewer than 6 unsure cells come in, plus 1 for each open cell, plus 2 for each decoded afresh. Each
-// clause that was met is noted in `met`.
-pub fn count(
-    n: usize,
-    weights: &[u16; 64],
-    incoming: &[u8; 64],
-    channel: &[u8; 64],
+// The decodings that a clause adds to the two of its line.
+const COST: [u64; 16] = [0, 0, 0, 0, 0, 0, 1, 2, 0, 0, 0, 0, 0, 0, 0, 0];
+
+// The message at cell k: cell k of the line decoding of the incoming line with cell k replaced by the channel's. Gives what the cell adds
+// to the line's count: 1 if it is open, 2 if it is decoded afresh. The clause that was met is noted in `met`.
+fn send(
+    weights: &[u16],
+    incoming: &[u8],
+    channel: &[u8],
     filling: u64,
+    k: usize,
+    out: &mut [u8],
     met: &mut [u64; 16],
 ) -> u64
-    requires { ⌜ n ≤ 64 ⌝ }
+    requires { ⌜ (length (now weights) ≤ 64) × (length (now incoming) ≡ length (now weights)) × (length (now channel) ≡ length (now weights)) × (k < length (now weights)) × (length (now out) ≡ length (now weights)) ⌝ }
+    ensures { λ _. ⌜ length (now (out .exit)) ≡ length (now (out .entry)) ⌝ }
 {
-    let mut sum: u64 = if erasures(n, incoming) < 6 { 2 } else { 0 };
+    let n = weights.len();
+    let mut room = [0u8; 64];
+    let mut other_room = [0u8; 64];
+    let replaced = &mut room[..n];
+    let decoded = &mut other_room[..n];
+    copy_cells(incoming, replaced);
+    replaced[k] = channel[k];
+    decode(weights, replaced, filling, decoded);
+    out[k] = decoded[k];
+    let fits = clause(weights, incoming, replaced, filling, k);
+    tick_if(met, fits, true);
+    COST[fits % 16]
+}
+
+// All messages of a line, one decoding per cell. Gives the count: 2 if fewer than 6 unsure cells come in, and what the cells add.
+pub fn messages(
+    weights: &[u16],
+    incoming: &[u8],
+    channel: &[u8],
+    filling: u64,
+    out: &mut [u8],
+    met: &mut [u64; 16],
+) -> u64
+    requires { ⌜ (length (now weights) ≤ 64) × (length (now incoming) ≡ length (now weights)) × (length (now channel) ≡ length (now weights)) × (length (now out) ≡ length (now weights)) ⌝ }
+    ensures { λ _. ⌜ length (now (out .exit)) ≡ length (now (out .entry)) ⌝ }
+{
+    let n = weights.len();
+    let mut count = 2 * one_if(unsure(incoming) < 6);
     for k in 0..n {
-        let fits = clause(n, weights, incoming, channel, filling, k);
-        tick_if(met, fits, true);
-        sum = wrapping_add_u64(sum, cost(fits));
+        let more = send(weights, incoming, channel, filling, k, out, met);
+        count = wrapping_add_u64(count, more);
     }
-    sum
+    count
 }

@@ -1,113 +1,105 @@
 // What the program `sheet` reads and prints, read and printed here anew from document 01.
-use crate::arrays::array_erasures;
+use crate::arrays::are_codewords;
 use crate::arrays::decode;
-use crate::arrays::is_closed;
-use crate::arrays::place;
+use crate::lines::unsure;
 ghost use Prim.Native.Nat.{_≤_, _<_};
+ghost use mathlib.Core.Path.{_≡_};
+ghost use lib.ListN.{length};
 
-// n lines of n characters and a newline.
-pub fn lines_long(n: usize) -> usize
-    ensures { λ r. ⌜ r ≤ 4160 ⌝ }
+// A byte at a place, where there is room; gives the next place.
+fn put_byte(byte: u8, at: usize, output: &mut [u8]) -> usize
+    ensures { λ _. ⌜ length (now (output .exit)) ≡ length (now (output .entry)) ⌝ }
 {
-    if n == 16 { 272 } else { 4160 }
-}
-
-fn row_of(n: usize, p: usize) -> usize {
-    if n == 16 { p / 17 } else { p / 65 }
-}
-
-fn column_of(n: usize, p: usize) -> usize {
-    if n == 16 { p % 17 } else { p % 65 }
-}
-
-// Byte p of the lines of an array.
-pub fn line_byte(n: usize, p: usize, cells: &[u8; 4096]) -> u8 {
-    let column = column_of(n, p);
-    if column == n {
-        return 10;
-    }
-    let cell = cells[place(n, row_of(n, p), column)];
-    if cell == 2 {
-        63
-    } else if cell == 1 {
-        49
+    if at < output.len() {
+        output[at] = byte;
+        at + 1
     } else {
-        48
+        at
     }
 }
 
-fn cell_of(byte: u8) -> u8 {
-    if byte == 63 {
-        2
-    } else if byte == 49 {
-        1
+// Cell i as a character, and a newline after the last of a row.
+fn put_cell(n: usize, i: usize, cell: u8, at: usize, output: &mut [u8]) -> usize
+    requires { ⌜ (0 < n) × (i < 4096) ⌝ }
+    ensures { λ _. ⌜ length (now (output .exit)) ≡ length (now (output .entry)) ⌝ }
+{
+    let next = put_byte(if cell == 2 { 63 } else { 48 + cell % 2 }, at, output);
+    if (i + 1) % n == 0 {
+        put_byte(10, next, output)
     } else {
-        0
+        next
     }
 }
 
-// The array of good lines.
-fn read_cells(n: usize, input: &[u8; 4300], cells: &mut [u8; 4096]) {
-    let long = lines_long(n);
-    for p in 0..long {
-        if column_of(n, p) != n {
-            cells[place(n, row_of(n, p), column_of(n, p))] = cell_of(input[2 + p]);
-        }
+// The n lines of an array: its cells as characters, and a newline after each row. Gives the place after them.
+pub fn put_lines(n: usize, cells: &[u8], at: usize, output: &mut [u8]) -> usize
+    requires { ⌜ (0 < n) × (length (now cells) ≤ 4096) ⌝ }
+    ensures { λ _. ⌜ length (now (output .exit)) ≡ length (now (output .entry)) ⌝ }
+{
+    let area = cells.len();
+    let mut next = at;
+    for i in 0..area {
+        next = put_cell(n, i, cells[i], next, output);
+    }
+    next
+}
+
+fn read_byte(byte: u8, at: usize, cells: &mut [u8]) -> usize
+    ensures { λ _. ⌜ length (now (cells .exit)) ≡ length (now (cells .entry)) ⌝ }
+{
+    if byte == 10 {
+        at
+    } else {
+        put_byte(if byte == 63 { 2 } else { byte % 2 }, at, cells)
     }
 }
 
-// Newlines stand at the ends of lines and nowhere else.
-fn newlines_right(n: usize, input: &[u8; 4300]) -> bool {
-    let long = lines_long(n);
-    let mut all = true;
-    for p in 0..long {
-        all = ((input[2 + p] == 10) == (column_of(n, p) == n)) & all;
+// The refusal number of the lines of an input, whose cells are read. Newlines stand at the ends of lines and nowhere else, so each
+// other byte is the next cell.
+fn read_lines(n: usize, input: &[u8], cells: &mut [u8]) -> u64
+    requires { ⌜ n ≤ 64 ⌝ }
+    ensures { λ _. ⌜ length (now (cells .exit)) ≡ length (now (cells .entry)) ⌝ }
+{
+    let long = input.len();
+    let mut newlines = true;
+    let mut characters = true;
+    let mut next = 0;
+    for p in 2..long {
+        let byte = input[p];
+        newlines = newlines & ((byte == 10) == ((p - 1) % (n + 1) == 0));
+        characters = characters & ((byte == 10) | (byte == 48) | (byte == 49) | (byte == 63));
+        next = read_byte(byte, next, cells);
     }
-    all
-}
-
-fn is_character(byte: u8) -> bool {
-    (byte == 10) | (byte == 48) | (byte == 49) | (byte == 63)
-}
-
-fn characters_right(n: usize, input: &[u8; 4300]) -> bool {
-    let long = lines_long(n);
-    let mut all = true;
-    for p in 0..long {
-        all = is_character(input[2 + p]) & all;
-    }
-    all
-}
-
-// The refusal number of an input of so many bytes.
-fn refusal_of(input: &[u8; 4300], long: usize) -> u64 {
-    let first = input[0];
-    if (long < 2) | (input[1] != 10) | ((first != 52) & (first != 54)) {
-        return 1;
-    }
-    let n = if first == 52 { 16 } else { 64 };
-    if long != 2 + lines_long(n) {
+    if !newlines {
         3
-    } else if !newlines_right(n, input) {
-        3
-    } else if !characters_right(n, input) {
+    } else if !characters {
         4
     } else {
         0
     }
 }
 
-fn put_byte(byte: u8, at: usize, output: &mut [u8; 4244]) -> usize {
-    if at < 4244 {
-        output[at] = byte;
-        at + 1
+// The refusal number of an input, whose cells are read.
+fn read_input(n: usize, input: &[u8], cells: &mut [u8]) -> u64
+    requires { ⌜ n ≤ 64 ⌝ }
+    ensures { λ _. ⌜ length (now (cells .exit)) ≡ length (now (cells .entry)) ⌝ }
+{
+    let long = input.len();
+    if long < 2 {
+        1
+    } else if (input[1] != 10) | ((input[0] != 52) & (input[0] != 54)) {
+        1
+    } else if long != if input[0] == 52 { 274 } else { 4162 } {
+        3
     } else {
-        4244
+        read_lines(n, input, cells)
     }
 }
 
 // A number in decimal, and the byte after it.
-fn put_number(number: u64, end: u8, at: usize, output: &mut [u8; 4244]) -> usize {
+fn put_number(number: u64, end: u8, at: usize, output: &mut [u8]) -> usize
+    ensures { λ _. ⌜ length (now (output .exit)) ≡ length (now (output .entry)) ⌝ }
+{
     let mut digits = [0u8; 20];
     let many = io::decimal(number, &mut digits);
     let mut next = at;
@@ -117,43 +109,42 @@ fn put_number(number: u64, end: u8, at: usize, output: &mut [u8; 4244]) -> usize
     put_byte(end, next, output)
 }
 
-fn put_numbers(a: u64, b: u64, c: u64, d: u64, output: &mut [u8; 4244]) -> usize {
+fn put_numbers(a: u64, b: u64, c: u64, d: u64, output: &mut [u8]) -> usize
+    ensures { λ _. ⌜ length (now (output .exit)) ≡ length (now (output .entry)) ⌝ }
+{
     let second = put_number(a, 32, 0, output);
     let third = put_number(b, 32, second, output);
     let fourth = put_number(c, 32, third, output);
     put_number(d, 10, fourth, output)
 }
 
-fn put_lines(n: usize, cells: &[u8; 4096], at: usize, output: &mut [u8; 4244]) -> usize {
-    let long = lines_long(n);
-    let mut next = at;
-    for p in 0..long {
-        next = put_byte(line_byte(n, p, cells), next, output);
-    }
-    next
-}
-
-// What is printed for an input, and its length.
+// What is printed for an input, and its length; the room is lent for the cells that are read and for those that come out.
 pub fn sheet_text(
-    n: usize,
-    weights: &[u16; 64],
-    input: &[u8; 4300],
-    long: usize,
-    output: &mut [u8; 4244],
+    weights: &[u16],
+    input: &[u8],
+    received: &mut [u8],
+    cells: &mut [u8],
+    output: &mut [u8],
 ) -> usize
-    requires { ⌜ n ≤ 64 ⌝ }
+    requires { ⌜ (0 < length (now weights)) × (length (now weights) ≤ 64) × (0 < length (now received)) × (length (now cells) ≡ length (now received)) × (length (now received) ≤ 4096) ⌝ }
+    ensures { λ _. ⌜ length (now (output .exit)) ≡ length (now (output .entry)) ⌝ }
 {
-    let refusal = refusal_of(input, long);
+    let n = weights.len();
+    let refusal = read_input(n, input, received);
     if refusal != 0 {
-        return put_numbers(refusal, 0, 0, 0, output);
+        put_numbers(refusal, 0, 0, 0, output)
+    } else {
+        let filling = [0u64; 128];
+        let mut met = [0u64; 16];
+        let lines = 2 * n;
+        let count = decode(weights, received, &filling[..lines], cells, &mut met);
+        let left = unsure(cells);
+        let closed = if (left == 0) & are_codewords(weights, cells) {
+            1
+        } else {
+            0
+        };
+        let next = put_numbers(0, count, left, closed, output);
+        put_lines(n, cells, next, output)
     }
-    let mut received = [0u8; 4096];
-    let mut cells = [0u8; 4096];
-    let filling = [0u64; 2560];
-    let mut met = [0u64; 16];
-    read_cells(n, input, &mut received);
-    let count = decode(n, weights, 2, &received, &filling, &mut cells, &mut met);
-    let closed = if is_closed(n, weights, &cells) { 1 } else { 0 };
-    let next = put_numbers(0, count, array_erasures(n, &cells), closed, output);
-    put_lines(n, &cells, next, output)
 }

@@ -1,6 +1,6 @@
 -- `chance::below` meets its contract: a remainder is below its divisor. Assumes nothing.
-use native.Mathlib.Nat.{mod-lt}
 use borrow.Author.Needs.{needs}
+use native.Mathlib.Nat.{mod-lt}
 use Rattle.second.proofs.chance.below.Statement.{statement}
 use Rattle.second.proofs.chance.below.Tie as tie
 
@@ -8,4 +8,9 @@ returns : tie.Need-returns
 returns c = mod-lt _ (search needs)
 
 pub below-spec : {M : Type 1} → statement M
-below-spec = tie.close (tie.spec (λ c κs. search needs) (λ c. search needs) returns)
+below-spec =
+    tie.close
+    (tie.spec
+    (λ c κs. search needs)
+    (λ c. search needs)
+    returns)

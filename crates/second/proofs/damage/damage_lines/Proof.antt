@@ -1,14 +1,23 @@
 -- `damage::damage_lines` is safe and ends: the measure is the turns left. Assumes nothing.
 use Prim.Native.Nat.{_≤_, _-_}
+use mathlib.Core.Path.{_≡_, sym}
+use lib.ListN.{length}
 use borrow.Author.Needs.{needs}
+use lib.Seq.{length-take-le}
 use Rattle.second.proofs.damage.damage_lines.Statement.{statement}
 use Rattle.second.proofs.damage.damage_lines.Tie as tie
 
 abbrev Inv-loop : tie.InvT-loop
-Inv-loop n kind state₀ cells₀ columns i₀ state cells i = i ≤ n
+Inv-loop n kind state₀ cells₀ first line₀ i₀ state cells line i = (i ≤ n) × (length line ≡ n) × (length cells ≡ length cells₀)
 
 abbrev μ-loop : tie.MeasureT-loop
-μ-loop n kind state₀ cells₀ columns i₀ state cells i = n - i
+μ-loop n kind state₀ cells₀ first line₀ i₀ state cells line i = n - i
+
+slice-aggregate-line : tie.Need-slice-aggregate-line Inv-loop μ-loop
+slice-aggregate-line c = sym (length-take-le _ _ (search needs))
+
+loop-holds : tie.Need-loop-holds Inv-loop μ-loop
+loop-holds c = (search needs, length-take-le _ _ (search needs), search needs)
 
 pub damage-lines-spec : {M : Type 1} → statement M
 damage-lines-spec =
@@ -16,10 +25,16 @@ damage-lines-spec =
     (tie.spec
     Inv-loop
     μ-loop
+    (λ c κs. search needs)
+    (λ c. search needs)
+    slice-aggregate-line
+    loop-holds
     (λ c. search needs)
     (λ c κs. search needs)
     (λ c κs. search needs)
+    (λ c. search needs)
     (λ c κs. search needs)
+    (λ c. search needs)
     (λ c. search needs)
     (λ c. search needs)
     (λ c. search needs)

@@ -1,14 +1,16 @@
 -- `damage::scatter` is safe and ends: the measure is the turns left. Assumes nothing.
 use Prim.Native.Nat.{_≤_, _-_}
+use mathlib.Core.Path.{_≡_}
+use lib.ListN.{length}
 use borrow.Author.Needs.{needs}
 use Rattle.second.proofs.damage.scatter.Statement.{statement}
 use Rattle.second.proofs.damage.scatter.Tie as tie
 
 abbrev Inv-loop : tie.InvT-loop
-Inv-loop n wrong unsure state₀ cells₀ area i₀ state cells i = i ≤ area
+Inv-loop n wrong erased state₀ cells₀ area i₀ state cells i = (i ≤ area) × (length cells ≡ area)
 
 abbrev μ-loop : tie.MeasureT-loop
-μ-loop n wrong unsure state₀ cells₀ area i₀ state cells i = area - i
+μ-loop n wrong erased state₀ cells₀ area i₀ state cells i = area - i
 
 pub scatter-spec : {M : Type 1} → statement M
 scatter-spec =
@@ -16,11 +18,11 @@ scatter-spec =
     (tie.spec
     Inv-loop
     μ-loop
-    (λ c κs. search needs)
     (λ c. search needs)
     (λ c κs. search needs)
     (λ c. search needs)
     (λ c κs. search needs)
+    (λ c. search needs)
     (λ c. search needs)
     (λ c. search needs)
     (λ c. search needs)

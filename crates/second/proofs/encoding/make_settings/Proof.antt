@@ -1,14 +1,23 @@
 -- `encoding::make_settings` is safe and ends: the measure is the turns left. Assumes nothing.
 use Prim.Native.Nat.{_≤_, _-_}
+use mathlib.Core.Path.{_≡_, sym}
+use lib.ListN.{length}
 use borrow.Author.Needs.{needs}
+use lib.Seq.{length-take-le}
 use Rattle.second.proofs.encoding.make_settings.Statement.{statement}
 use Rattle.second.proofs.encoding.make_settings.Tie as tie
 
 abbrev Inv-loop : tie.InvT-loop
-Inv-loop degree weights settings₀ many setting₀ settings setting = setting ≤ many
+Inv-loop weights settings₀ n line₀ setting₀ settings line setting = (setting ≤ 4096) × (length line ≡ n)
 
 abbrev μ-loop : tie.MeasureT-loop
-μ-loop degree weights settings₀ many setting₀ settings setting = many - setting
+μ-loop weights settings₀ n line₀ setting₀ settings line setting = 4096 - setting
+
+slice-aggregate-line : tie.Need-slice-aggregate-line Inv-loop μ-loop
+slice-aggregate-line c = sym (length-take-le _ _ (search needs))
+
+loop-holds : tie.Need-loop-holds Inv-loop μ-loop
+loop-holds c = (search needs, length-take-le _ _ (search needs))
 
 pub make-settings-spec : {M : Type 1} → statement M
 make-settings-spec =
@@ -16,8 +25,10 @@ make-settings-spec =
     (tie.spec
     Inv-loop
     μ-loop
-    (λ c κs. search needs)
     (λ c. search needs)
+    slice-aggregate-line
+    loop-holds
+    (λ c κs. search needs)
     (λ c κs. search needs)
     (λ c. search needs)
     (λ c. search needs)

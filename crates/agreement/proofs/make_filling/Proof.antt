@@ -1,0 +1,26 @@
+-- `make_filling` is safe and ends: the measure is the turns left. Assumes nothing.
+use Prim.Native.Nat.{_≤_, _-_}
+use borrow.Author.Needs.{needs}
+use Rattle.agreement.proofs.make_filling.Statement.{statement}
+use Rattle.agreement.proofs.make_filling.Tie as tie
+
+abbrev Inv-loop : tie.InvT-loop
+Inv-loop kind state₀ filling₀ i₀ state filling i = i ≤ 2560
+
+abbrev μ-loop : tie.MeasureT-loop
+μ-loop kind state₀ filling₀ i₀ state filling i = 2560 - i
+
+pub make-filling-spec : {M : Type 1} → statement M
+make-filling-spec =
+    tie.close
+    (tie.spec
+    Inv-loop
+    μ-loop
+    (λ c. search needs)
+    (λ c κs. search needs)
+    (λ c. search needs)
+    (λ c. search needs)
+    (λ c. search needs)
+    (λ c. search needs)
+    (λ c. search needs)
+    (λ c. search needs))
