@@ -5,8 +5,8 @@ use libc::STDOUT_FILENO;
 use line::entry::LineAnswer;
 use line::entry::MessagesAnswer;
 use line::refusals::number_of;
-use second::arrays::are_codewords;
 use second::arrays::area_of;
+use second::arrays::bad_columns;
 use second::arrays::take_line;
 use second::chance::below;
 use second::chance::filling_word;
@@ -319,7 +319,7 @@ fn test_decoding_of(
     let given_part = &mut given[..area];
     let count = second::arrays::decode(weights, received, filling, own_part, met);
     let left = unsure(own_part);
-    let closed = (left == 0) & are_codewords(weights, own_part);
+    let closed = (left == 0) & (bad_columns(weights, own_part) == 0);
     let restored = same(own_part, sent);
     let answer = array::entry::decode(degree, iterations, received, filling, given_part);
     let agree = match answer {

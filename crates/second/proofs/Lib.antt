@@ -1,1 +1,3 @@
 pub mod Places
+mod Entries
+mod Weighing

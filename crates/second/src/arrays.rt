@@ -95,17 +95,24 @@ pub fn decode(
     sum
 }
 
-// Every column is a codeword.
-pub fn are_codewords(weights: &[u16], cells: &[u8]) -> bool
+fn one_if(fact: bool) -> usize
+    ensures { λ r. ⌜ r ≤ 1 ⌝ }
+{
+    if fact { 1 } else { 0 }
+}
+
+// The columns that are no codewords.
+pub fn bad_columns(weights: &[u16], cells: &[u8]) -> usize
     requires { ⌜ (length (now weights) ≤ 64) × (0 < length (now cells)) ⌝ }
+    ensures { λ r. ⌜ r ≤ length (now (weights .entry)) ⌝ }
 {
     let n = weights.len();
     let mut room = [0u8; 64];
     let line = &mut room[..n];
-    let mut all = true;
+    let mut bad = 0;
     for j in 0..n {
         take_line(n + j, cells, line);
-        all = all & (syndrome(weights, line) == 0);
+        bad += one_if(syndrome(weights, line) != 0);
     }
-    all
+    bad
 }

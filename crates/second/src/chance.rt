@@ -23,7 +23,9 @@ pub fn below(state: &mut u64, bound: usize) -> usize
 }
 
 // A filling word: zero, all ones, or drawn.
-pub fn filling_word(state: &mut u64, kind: usize) -> u64 {
+pub fn filling_word(state: &mut u64, kind: usize) -> u64
+    ensures { λ r. ⌜ (kind ≡ 0 → r ≡ 0) × (kind ≡ 1 → r ≡ 18446744073709551615) ⌝ }
+{
     if kind == 0 {
         0
     } else if kind == 1 {

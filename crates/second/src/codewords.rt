@@ -4,7 +4,10 @@
 // α^(3i) in bits 6 to 11, and in bit 12 whether the number of ones is odd. Each cell has a weight, which is what a one there adds.
 ghost use Prim.Native.Nat.{_≤_, _<_};
 ghost use mathlib.Core.Path.{_≡_};
+ghost use mathlib.Core.Bool.{cond};
+ghost use lib.Bits.{bitXor};
 ghost use lib.ListN.{length};
+ghost use Rattle.second.specs.working.Syndromes.{weighed};
 
 // x times α. Bit i is the coefficient of α^i, so every bit moves up by one; where α^v comes up, which is bit n, α^v + α + 1, which is
 // zero, is added. The remainder changes nothing: it tells the checker that an element is small.
@@ -45,16 +48,22 @@ pub fn make_weights(weights: &mut [u16])
     weights[last] = 4096;
 }
 
+// A sum, with one weight more where it is asked for.
+fn added(sum: u16, yes: bool, weight: u16) -> u16
+    ensures { λ r. ⌜ r ≡ bitXor sum (cond yes weight 0) ⌝ }
+{
+    if yes { sum ^ weight } else { sum }
+}
+
 // The syndrome of a word: the sum of the weights of the cells that hold 1.
 pub fn syndrome(weights: &[u16], word: &[u8]) -> u16
     requires { ⌜ length (now word) ≡ length (now weights) ⌝ }
+    ensures { λ r. ⌜ r ≡ weighed (now (weights .entry)) (now (word .entry)) ⌝ }
 {
     let n = weights.len();
     let mut sum: u16 = 0;
     for i in 0..n {
-        if word[i] == 1 {
-            sum = sum ^ weights[i];
-        }
+        sum = added(sum, word[i] == 1, weights[i]);
     }
     sum
 }

@@ -1,10 +1,14 @@
 // Comparing, and sums of results. Counts wrap, so that nothing has to be known of them; none comes near 2^64.
 use std::num::wrapping_add_u64;
 ghost use mathlib.Core.Path.{_≡_};
-ghost use mathlib.Core.Bool.{false};
+ghost use Prim.Native.Nat.{_<_};
+ghost use lib.ListN.{length, getD};
+ghost use Rattle.second.specs.working.Tallies.{mixed, next, ticked};
 
 // A sum of all the numbers mixed into it so far, in their order: it tells two runs apart that saw different results.
-pub fn mix(sum: u64, value: u64) -> u64 {
+pub fn mix(sum: u64, value: u64) -> u64
+    ensures { λ r. ⌜ r ≡ mixed sum value ⌝ }
+{
     let a = wrapping_add_u64(wrapping_add_u64(sum, value), 0x9E3779B97F4A7C15);
     let b = a ^ (a >> 29);
     let c = b ^ (b << 17);
@@ -17,7 +21,7 @@ pub const OWN: usize = 4;
 
 // One more at a place where the fact holds.
 pub fn tick_if(tally: &mut [u64; 16], place: usize, fact: bool)
-    ensures { λ _. ⌜ (fact ≡ false → now (tally .exit) ≡ now (tally .entry)) ⌝ }
+    ensures { λ _. ⌜ now (tally .exit) ≡ ticked fact place (now (tally .entry)) ⌝ }
 {
     if fact {
         let at = place % 16;
@@ -43,7 +47,9 @@ pub fn note(
     room: usize,
     numbers_agree: bool,
     number: u64,
-) {
+)
+    ensures { λ _. ⌜ (0 < length (now (tally .entry)) → getD (now (tally .exit)) 0 0 ≡ next (getD (now (tally .entry)) 0 0)) ⌝ }
+{
     let mut agreed = numbers_agree;
     let mut sum = number;
     for i in 0..room {

@@ -3,9 +3,9 @@
 use crate::arrays::put_line;
 use crate::arrays::take_line;
 use crate::codewords::syndrome;
-ghost use Prim.Native.Nat.{_≤_, _<_, _+_, _*_};
+ghost use Prim.Native.Nat.{ℕ, _≤_, _<_, _+_, _*_};
 ghost use mathlib.Core.Path.{_≡_};
-ghost use lib.ListN.{length};
+ghost use lib.ListN.{length, getD};
 
 // 2v, the first message cell of a line: the cells below it are check cells.
 fn first_message_cell(n: usize) -> usize
@@ -30,6 +30,7 @@ fn put_checks(setting: usize, last: u8, line: &mut [u8])
 // Entry s: the setting of the check cells whose syndrome is s, the parity left out.
 pub fn make_settings(weights: &[u16], settings: &mut [usize; 4096])
     requires { ⌜ (12 < length (now weights)) × (length (now weights) ≤ 64) ⌝ }
+    ensures { λ _. ⌜ (((i : ℕ) → getD (now (settings .entry)) i 0 < 4096) → (i : ℕ) → getD (now (settings .exit)) i 0 < 4096) ⌝ }
 {
     let n = weights.len();
     let mut room = [0u8; 64];

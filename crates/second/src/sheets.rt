@@ -1,5 +1,5 @@
 // What the program `sheet` reads and prints, read and printed here anew from document 01.
-use crate::arrays::are_codewords;
+use crate::arrays::bad_columns;
 use crate::arrays::decode;
 use crate::lines::unsure;
 ghost use Prim.Native.Nat.{_≤_, _<_};
@@ -139,7 +139,7 @@ pub fn sheet_text(
         let lines = 2 * n;
         let count = decode(weights, received, &filling[..lines], cells, &mut met);
         let left = unsure(cells);
-        let closed = if (left == 0) & are_codewords(weights, cells) {
+        let closed = if (left == 0) & (bad_columns(weights, cells) == 0) {
             1
         } else {
             0

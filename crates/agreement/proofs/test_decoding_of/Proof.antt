@@ -16,8 +16,8 @@ slice-aggregate-given-part c = sym (length-take-le _ _ (search needs))
 decode-requires : tie.Need-decode-requires
 decode-requires c κs = (c .before .before .before .before .before .before .before .before .before .pre .1, c .before .before .before .before .before .before .before .before .before .pre .0, c .before .before .before .before .before .before .before .before .before .pre .2, length-take-le _ _ (c .before .before .before .before .before .before .before .before .before .pre .3))
 
-are-codewords-requires : tie.Need-are-codewords-requires
-are-codewords-requires c κs = (c .before .before .before .before .before .before .before .before .before .before .before .before .before .before .before .pre .0, lt-of-lt-of-le (c .before .before .before .before .before .before .before .before .before .before .before .before .before .before .before .pre .2) (le-of-eq (sym (c .before .before .before .before .before .decode .ensures ∙ length-take-le _ _ (c .before .before .before .before .before .before .before .before .before .before .before .before .before .before .before .pre .3)))))
+bad-columns-requires : tie.Need-bad-columns-requires
+bad-columns-requires c κs = (c .before .before .before .before .before .before .before .before .before .before .before .before .before .before .before .pre .0, lt-of-lt-of-le (c .before .before .before .before .before .before .before .before .before .before .before .before .before .before .before .pre .2) (le-of-eq (sym (c .before .before .before .before .before .decode .ensures ∙ length-take-le _ _ (c .before .before .before .before .before .before .before .before .before .before .before .before .before .before .before .pre .3)))))
 
 pub test-decoding-of-spec : {M : Type 1} → statement M
 test-decoding-of-spec =
@@ -32,7 +32,7 @@ test-decoding-of-spec =
     slice-aggregate-given-part
     decode-requires
     (λ c κs. search needs)
-    are-codewords-requires
+    bad-columns-requires
     (λ c κs. search needs)
     (λ c κs. search needs)
     (λ c. search needs)

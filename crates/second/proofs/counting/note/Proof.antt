@@ -1,6 +1,8 @@
 -- `counting::note` is safe and ends: the measure is the turns left. Assumes nothing.
 use Prim.Native.Nat.{_≤_, _-_}
+use mathlib.Core.Bool.{not}
 use borrow.Author.Needs.{needs}
+use Rattle.second.proofs.Entries.{noted-one}
 use Rattle.second.proofs.counting.note.Statement.{statement}
 use Rattle.second.proofs.counting.note.Tie as tie
 
@@ -9,6 +11,13 @@ Inv-loop tally own given room numbers-agree number agreed₀ sum₀ i₀ agreed 
 
 abbrev μ-loop : tie.MeasureT-loop
 μ-loop tally own given room numbers-agree number agreed₀ sum₀ i₀ agreed sum i = room - i
+
+returns : tie.Need-returns Inv-loop μ-loop
+returns c =
+    let third = c .before .before in
+    let first = third .before .before .before .before in
+    let agreed = first .before .before .before .loop .agreed in
+    λ h. rw (third .tick-if3 .ensures, third .before .before .tick-if2 .ensures, first .tick-if .ensures) (noted-one (first .before .before .before .before .before .before .args .tally .now) agreed (not agreed) (c .mix2 .result) h)
 
 pub note-spec : {M : Type 1} → statement M
 note-spec =
@@ -29,4 +38,4 @@ note-spec =
     (λ c. search needs)
     (λ c κs. search needs)
     (λ c. search needs)
-    (λ c. search needs))
+    returns)
