@@ -1,3 +1,4 @@
-pub mod Places
-mod Entries
-mod Weighing
+mod Loops
+mod Places
+mod Noting
+pub mod Ranges

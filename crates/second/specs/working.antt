@@ -1,2 +1,6 @@
-pub mod Syndromes
+pub mod Loops
+pub mod Codes
+pub mod Lines
+pub mod Arrays
+pub mod Encoding
 pub mod Tallies

@@ -1,118 +1,124 @@
-// Arrays: the plain decoding, as document 01 sets it out, and what is told of its end. Cells lie row after row. Lines 0 to n - 1 are
-// the rows, lines n to 2n - 1 the columns.
+// Arrays: the plain decoding, as document 01 sets it out, and what is told of its end. Lines 0 to n - 1 are the rows, lines n to
+// 2n - 1 the columns.
+use crate::codewords::Line;
+use crate::codewords::Weights;
 use crate::codewords::syndrome;
 use crate::lines::messages;
-use std::num::wrapping_add_u64;
-use words::copying::copy_cells;
-ghost use Prim.Native.Nat.{_≤_, _<_, _*_};
+use crate::lines::unsure;
+use crate::tallies::Totals;
+ghost use Prim.Native.Nat.{_+_, _*_, _≤_, _<_};
 ghost use mathlib.Core.Path.{_≡_};
-ghost use lib.ListN.{length};
+ghost use Rattle.second.specs.working.Loops.{Below};
+ghost use Rattle.second.specs.working.Arrays.{placeOf, takenLine, withLine};
 
-// The cells of an array.
+// The cells of an array: the first n times n count, and the others are 0.
+pub type Cells = [u8; 4096];
+
+// How many they are.
 pub fn area_of(n: usize) -> usize
-    requires { ⌜ (0 < n) × (n ≤ 64) ⌝ }
-    ensures { λ r. ⌜ (r ≡ n * n) × (0 < r) × (r ≤ 4096) ⌝ }
+    ensures { λ r. ⌜ (256 ≤ r) × (r ≤ 4096) ⌝ }
 {
-    n * n
+    if n == 16 { 256 } else { 4096 }
 }
 
 // The place of cell j of line i.
 fn place(n: usize, i: usize, j: usize) -> usize
-    requires { ⌜ (n ≤ 64) × (i < 128) × (j < n) ⌝ }
+    requires { ⌜ (n ≤ 64) × (i < n + n) × (j < n) ⌝ }
+    ensures { λ r. ⌜ (r ≡ placeOf n i j) × (r < 4096) ⌝ }
 {
     if i < n { i * n + j } else { j * n + (i - n) }
 }
 
-// Line i of an array. (The remainder changes nothing: it tells the checker that the place is within the array.)
-pub fn take_line(i: usize, cells: &[u8], line: &mut [u8])
-    requires { ⌜ (i < 128) × (0 < length (now cells)) × (length (now line) ≤ 64) ⌝ }
-    ensures { λ _. ⌜ length (now (line .exit)) ≡ length (now (line .entry)) ⌝ }
+// Line i of an array.
+pub fn take_line(n: usize, i: usize, cells: &Cells) -> Line
+    requires { ⌜ (n ≤ 64) × (i < n + n) ⌝ }
+    ensures { λ r. ⌜ r ≡ takenLine n i (now (cells .entry)) ⌝ }
 {
-    let n = line.len();
-    let area = cells.len();
+    let mut line = [0u8; 64];
     for j in 0..n {
-        line[j] = cells[place(n, i, j) % area];
+        line[j] = cells[place(n, i, j)];
     }
+    line
 }
 
-pub fn put_line(i: usize, line: &[u8], cells: &mut [u8])
-    requires { ⌜ (i < 128) × (0 < length (now cells)) × (length (now line) ≤ 64) ⌝ }
-    ensures { λ _. ⌜ length (now (cells .exit)) ≡ length (now (cells .entry)) ⌝ }
+pub fn put_line(n: usize, i: usize, line: Line, cells: &mut Cells)
+    requires { ⌜ (n ≤ 64) × (i < n + n) ⌝ }
+    ensures { λ _. ⌜ now (cells .exit) ≡ withLine n i line (now (cells .entry)) ⌝ }
 {
-    let n = line.len();
-    let area = cells.len();
     for j in 0..n {
-        cells[place(n, i, j) % area] = line[j];
+        cells[place(n, i, j)] = line[j];
     }
 }
 
 // Line i of the new sheet, from line i of the sheet before the half and of the received one; gives the line's count.
 fn renew_line(
-    weights: &[u16],
+    n: usize,
+    weights: &Weights,
     i: usize,
-    received: &[u8],
+    received: &Cells,
     filling: u64,
-    cells: &mut [u8],
-    met: &mut [u64; 16],
+    cells: &mut Cells,
+    tally: &mut Totals,
 ) -> u64
-    requires { ⌜ (length (now weights) ≤ 64) × (i < 128) × (0 < length (now received)) × (0 < length (now cells)) ⌝ }
-    ensures { λ _. ⌜ length (now (cells .exit)) ≡ length (now (cells .entry)) ⌝ }
+    requires { ⌜ (n ≤ 64) × (i < n + n) ⌝ }
+    ensures { λ r. ⌜ (r ≤ 130) × (Below 3 (now (received .entry)) → Below 3 (now (cells .entry)) → Below 3 (now (cells .exit))) ⌝ }
 {
-    let n = weights.len();
-    let mut room = [0u8; 64];
-    let mut other_room = [0u8; 64];
-    let mut third_room = [0u8; 64];
-    let incoming = &mut room[..n];
-    let channel = &mut other_room[..n];
-    let sent = &mut third_room[..n];
-    take_line(i, cells, incoming);
-    take_line(i, received, channel);
-    let count = messages(weights, incoming, channel, filling, sent, met);
-    put_line(i, sent, cells);
-    count
+    let incoming = take_line(n, i, cells);
+    let channel = take_line(n, i, received);
+    let sent = messages(n, weights, incoming, channel, filling, tally);
+    let line = sent.line;
+    put_line(n, i, line, cells);
+    sent.count
 }
 
-// The plain decoding; gives the count. The filling words are in order of halves and then of lines, so each serves the next line: rows,
-// then columns, and again. The lines of a half share no cell, so each stands as it was before the half until its turn.
+// The plain decoding of what the receiver gave, which stands in `cells` too; gives the count. The filling words are in order of halves
+// and then of lines, so each of the first `many` serves the next line: rows, then columns, and again. The lines of a half share no cell,
+// so each stands as it was before the half until its turn.
 pub fn decode(
-    weights: &[u16],
-    received: &[u8],
-    filling: &[u64],
-    cells: &mut [u8],
-    met: &mut [u64; 16],
+    n: usize,
+    weights: &Weights,
+    received: &Cells,
+    filling: &[u64; 2560],
+    many: usize,
+    cells: &mut Cells,
+    tally: &mut Totals,
 ) -> u64
-    requires { ⌜ (0 < length (now weights)) × (length (now weights) ≤ 64) × (0 < length (now received)) × (length (now cells) ≡ length (now received)) ⌝ }
-    ensures { λ _. ⌜ length (now (cells .exit)) ≡ length (now (cells .entry)) ⌝ }
+    requires { ⌜ (0 < n) × (n ≤ 64) × (many ≤ 2560) ⌝ }
+    ensures { λ r. ⌜ (r ≤ 130 * many) × (Below 3 (now (received .entry)) → Below 3 (now (cells .entry)) → Below 3 (now (cells .exit))) ⌝ }
 {
-    copy_cells(received, cells);
-    let lines = 2 * weights.len();
-    let many = filling.len();
+    let lines = n + n;
     let mut sum: u64 = 0;
     for w in 0..many {
-        let count = renew_line(weights, w % lines, received, filling[w], cells, met);
-        sum = wrapping_add_u64(sum, count);
+        sum += renew_line(n, weights, w % lines, received, filling[w], cells, tally);
     }
     sum
 }
 
-fn one_if(fact: bool) -> usize
+// How many columns are no codewords, and how many cells are unsure.
+pub struct Columns {
+    pub bad: u64,
+    pub unsure: u64,
+}
+
+fn one_if(fact: bool) -> u64
     ensures { λ r. ⌜ r ≤ 1 ⌝ }
 {
     if fact { 1 } else { 0 }
 }
 
-// The columns that are no codewords.
-pub fn bad_columns(weights: &[u16], cells: &[u8]) -> usize
-    requires { ⌜ (length (now weights) ≤ 64) × (0 < length (now cells)) ⌝ }
-    ensures { λ r. ⌜ r ≤ length (now (weights .entry)) ⌝ }
+pub fn columns_of(n: usize, weights: &Weights, cells: &Cells) -> Columns
+    requires { ⌜ n ≤ 64 ⌝ }
+    ensures { λ r. ⌜ (r .bad ≤ n) × (r .unsure ≤ 64 * n) ⌝ }
 {
-    let n = weights.len();
-    let mut room = [0u8; 64];
-    let line = &mut room[..n];
-    let mut bad = 0;
+    let mut bad: u64 = 0;
+    let mut left: u64 = 0;
     for j in 0..n {
-        take_line(n + j, cells, line);
-        bad += one_if(syndrome(weights, line) != 0);
+        let line = take_line(n, n + j, cells);
+        bad += one_if(syndrome(n, weights, line) != 0);
+        left += unsure(n, line);
     }
-    bad
+    Columns {
+        bad: bad,
+        unsure: left,
+    }
 }

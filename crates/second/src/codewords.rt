@@ -2,18 +2,25 @@
 //
 // The three facts of a codeword stand side by side in one number, the syndrome: the sum of α^i in bits 0 to 5, the sum of
 // α^(3i) in bits 6 to 11, and in bit 12 whether the number of ones is odd. Each cell has a weight, which is what a one there adds.
-ghost use Prim.Native.Nat.{_≤_, _<_};
+ghost use Prim.Native.Nat.{_≤_, _<_, _-_};
 ghost use mathlib.Core.Path.{_≡_};
-ghost use mathlib.Core.Bool.{cond};
+ghost use mathlib.Core.Bool.{false, cond};
 ghost use lib.Bits.{bitXor};
-ghost use lib.ListN.{length};
-ghost use Rattle.second.specs.working.Syndromes.{weighed};
+ghost use lib.Dec.{eqb};
+ghost use lib.ListN.{replicate, set};
+ghost use Rattle.second.specs.working.Loops.{Below, written};
+ghost use Rattle.second.specs.working.Codes.{timesAlpha, powerOf, weightOf, syndromeOf};
+
+// The first n of its cells count, and the others are 0.
+pub type Line = [u8; 64];
+
+pub type Weights = [usize; 64];
 
 // x times α. Bit i is the coefficient of α^i, so every bit moves up by one; where α^v comes up, which is bit n, α^v + α + 1, which is
 // zero, is added. The remainder changes nothing: it tells the checker that an element is small.
-fn times_alpha(n: u16, x: u16) -> u16
+fn times_alpha(n: usize, x: usize) -> usize
     requires { ⌜ (n ≤ 64) × (x < 64) ⌝ }
-    ensures { λ r. ⌜ r < 64 ⌝ }
+    ensures { λ r. ⌜ (r ≡ timesAlpha n x) × (r < 64) ⌝ }
 {
     let shifted = x * 2;
     if shifted < n {
@@ -24,11 +31,11 @@ fn times_alpha(n: u16, x: u16) -> u16
 }
 
 // α^exponent, made from the polynomial alone.
-fn power(n: u16, exponent: usize) -> u16
+fn power(n: usize, exponent: usize) -> usize
     requires { ⌜ n ≤ 64 ⌝ }
-    ensures { λ r. ⌜ r < 64 ⌝ }
+    ensures { λ r. ⌜ (r ≡ powerOf n exponent) × (r < 64) ⌝ }
 {
-    let mut x: u16 = 1;
+    let mut x = 1;
     for _ in 0..exponent {
         x = times_alpha(n, x);
     }
@@ -36,76 +43,91 @@ fn power(n: u16, exponent: usize) -> u16
 }
 
 // The weights of all n cells of a line. The last cell has a part in the number of ones alone.
-pub fn make_weights(weights: &mut [u16])
-    requires { ⌜ (0 < length (now weights)) × (length (now weights) ≤ 64) ⌝ }
-    ensures { λ _. ⌜ length (now (weights .exit)) ≡ length (now (weights .entry)) ⌝ }
+pub fn weights_of(n: usize) -> Weights
+    requires { ⌜ (0 < n) × (n ≤ 64) ⌝ }
+    ensures { λ r. ⌜ r ≡ set (written (λ i. i) (weightOf n) (n - 1) (replicate 64 0)) (n - 1) 4096 ⌝ }
 {
-    let n = weights.len() as u16;
-    let last = weights.len() - 1;
+    let last = n - 1;
+    let mut weights = [0usize; 64];
     for i in 0..last {
         weights[i] = 4096 + 64 * power(n, 3 * i) + power(n, i);
     }
     weights[last] = 4096;
+    weights
 }
 
-// A sum, with one weight more where it is asked for.
-fn added(sum: u16, yes: bool, weight: u16) -> u16
-    ensures { λ r. ⌜ r ≡ bitXor sum (cond yes weight 0) ⌝ }
+// A sum, with the weight of a cell where that holds 1.
+fn added(sum: usize, cell: u8, weight: usize) -> usize
+    ensures { λ r. ⌜ r ≡ bitXor sum (cond (eqb cell 1) weight 0) ⌝ }
 {
-    if yes { sum ^ weight } else { sum }
+    if cell == 1 { sum ^ weight } else { sum }
 }
 
 // The syndrome of a word: the sum of the weights of the cells that hold 1.
-pub fn syndrome(weights: &[u16], word: &[u8]) -> u16
-    requires { ⌜ length (now word) ≡ length (now weights) ⌝ }
-    ensures { λ r. ⌜ r ≡ weighed (now (weights .entry)) (now (word .entry)) ⌝ }
+pub fn syndrome(n: usize, weights: &Weights, word: Line) -> usize
+    requires { ⌜ n ≤ 64 ⌝ }
+    ensures { λ r. ⌜ r ≡ syndromeOf n (now (weights .entry)) word ⌝ }
 {
-    let n = weights.len();
-    let mut sum: u16 = 0;
+    let mut sum = 0;
     for i in 0..n {
-        sum = added(sum, word[i] == 1, weights[i]);
+        sum = added(sum, word[i], weights[i]);
     }
     sum
 }
 
 // The first cell from a place on whose flip adds what is wanted to the syndrome; n, which is no cell, where there is none.
-fn flip_adding(weights: &[u16], from: usize, wanted: u16) -> usize
-    requires { ⌜ from ≤ length (now weights) ⌝ }
+fn flip_adding(n: usize, weights: &Weights, from: usize, wanted: usize) -> usize
+    requires { ⌜ (n ≤ 64) × (from ≤ n) ⌝ }
+    ensures { λ r. ⌜ r ≤ n ⌝ }
 {
     let mut i = from;
-    while i < weights.len() && weights[i] != wanted {
+    while i < n && weights[i] != wanted {
         i += 1;
     }
     i
 }
 
-// n is no cell.
-fn flip(cell: usize, word: &mut [u8])
-    ensures { λ _. ⌜ length (now (word .exit)) ≡ length (now (word .entry)) ⌝ }
+// The word with a cell flipped; n is no cell.
+fn flip(n: usize, cell: usize, word: Line) -> Line
+    requires { ⌜ n ≤ 64 ⌝ }
+    ensures { λ r. ⌜ (Below 2 word → Below 2 r) ⌝ }
 {
-    if cell < word.len() {
-        word[cell] = word[cell] ^ 1;
+    if cell < n {
+        let mut flipped = word;
+        flipped[cell] = word[cell] ^ 1;
+        flipped
+    } else {
+        word
     }
 }
 
-// Bounded distance, in place: the codeword within 2, and whether there is one. A failed word stays as it came. Tried are no flip,
-// one, and then two: every cell with every later one.
-pub fn bounded_distance(weights: &[u16], word: &mut [u8]) -> bool
-    requires { ⌜ length (now word) ≡ length (now weights) ⌝ }
-    ensures { λ _. ⌜ length (now (word .exit)) ≡ length (now (word .entry)) ⌝ }
+// What decoding a word or a line leaves. Where nothing is found it is as it came.
+pub struct Attempt {
+    pub found: bool,
+    pub line: Line,
+}
+
+// Bounded distance: the codeword within 2. Tried are no flip, one, and then two: every cell with every later one.
+pub fn bounded_distance(n: usize, weights: &Weights, word: Line) -> Attempt
+    requires { ⌜ n ≤ 64 ⌝ }
+    ensures { λ r. ⌜ (r .found ≡ false → r .line ≡ word) × (Below 2 word → Below 2 (r .line)) ⌝ }
 {
-    let n = weights.len();
-    let sum = syndrome(weights, word);
+    let sum = syndrome(n, weights, word);
     let mut i = n;
-    let mut j = flip_adding(weights, 0, sum);
+    let mut j = flip_adding(n, weights, 0, sum);
     while 0 < i && (sum != 0) & (j == n) {
         i -= 1;
-        j = flip_adding(weights, i + 1, sum ^ weights[i]);
+        j = flip_adding(n, weights, i + 1, sum ^ weights[i]);
     }
-    let found = (sum == 0) | (j != n);
-    if found {
-        flip(i, word);
-        flip(j, word);
+    if (sum == 0) | (j != n) {
+        Attempt {
+            found: true,
+            line: flip(n, i, flip(n, j, word)),
+        }
+    } else {
+        Attempt {
+            found: false,
+            line: word,
+        }
     }
-    found
 }

@@ -1,13 +1,12 @@
 // A second implementation of document 01, written from its definitions: a word is tried with no cell flipped, with one and with two,
-// and a message is one decoding per cell. It shares nothing with the decoder but the cells. Beside it: damage made by chance, and
-// what a comparison notes. `agreement` compares the decoder with it.
+// a message is one decoding per cell, and a line is encoded by division by the generator polynomial. It shares nothing with the
+// decoder but the cells. `agreement` compares the decoder with it. Beside it: what a comparison notes.
 //
-// A code is given by the weights of its cells, and n is their number. A line is a slice of n cells, an array one of n times n.
+// A code is given by n and the weights of its cells. A line is an array of 64 cells, of which the first n count, and the others are 0; an
+// array of n by n cells is one of 4096, row after row.
 pub mod codewords; // weights, check sums, bounded distance by trying flips
 pub mod lines; // line decoding, messages, clauses and their count
 pub mod arrays; // the decoding of an array
 pub mod encoding; // encoding, and taking the message out
 pub mod sheets; // what `sheet` prints
-pub mod chance; // numbers drawn by chance
-pub mod damage; // wrong and unsure cells made by chance
-pub mod counting; // comparing, counting, and sums of results
+pub mod tallies; // comparing, counting, sums of results, and how they are printed

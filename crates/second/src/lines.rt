@@ -1,52 +1,69 @@
 // Lines with unsure cells: line decoding, one decoding per cell for the messages, and the clause that each cell of a line falls
 // under, tested from its definition. A cell is 0, 1 or 2, and 2 is unsure.
+use crate::codewords::Attempt;
+use crate::codewords::Line;
+use crate::codewords::Weights;
 use crate::codewords::bounded_distance;
-use crate::counting::tick_if;
-use std::num::wrapping_add_u64;
-use words::copying::copy_cells;
-ghost use Prim.Native.Nat.{_≤_, _<_};
+use crate::tallies::CLAUSES;
+use crate::tallies::Totals;
+use crate::tallies::tick_if;
+ghost use Prim.Native.Nat.{_+_, _*_, _%_, _^_, _≤_, _<_};
 ghost use mathlib.Core.Path.{_≡_};
-ghost use lib.ListN.{length};
+ghost use mathlib.Core.Bool.{false};
+ghost use Rattle.laws.specs.Sums.{sumTo};
+ghost use Rattle.second.specs.working.Loops.{Below};
+ghost use Rattle.second.specs.working.Lines.{oneWhere, isLike, differsAt};
+
+// A cell, or the lowest of the filling bits where it is unsure.
+fn filled(cell: u8, filling: u64) -> u8
+    ensures { λ r. ⌜ (cell < 3 → r < 2) ⌝ }
+{
+    if cell == 2 { (filling % 2) as u8 } else { cell }
+}
 
 // The line with its filling bit in each unsure cell: bit i of the filling word serves cell i.
-fn fill(line: &[u8], filling: u64, word: &mut [u8])
-    requires { ⌜ (length (now line) ≤ 64) × (length (now word) ≡ length (now line)) ⌝ }
-    ensures { λ _. ⌜ length (now (word .exit)) ≡ length (now (word .entry)) ⌝ }
+fn fill(n: usize, line: Line, filling: u64) -> Line
+    requires { ⌜ n ≤ 64 ⌝ }
+    ensures { λ r. ⌜ (Below 3 line → Below 2 r) ⌝ }
 {
-    let n = line.len();
+    let mut word = [0u8; 64];
     for i in 0..n {
-        let cell = line[i];
-        word[i] = if cell == 2 {
-            ((filling >> i) % 2) as u8
-        } else {
-            cell
-        };
+        word[i] = filled(line[i], filling >> i);
     }
+    word
 }
 
 fn one_if(fact: bool) -> u64
-    ensures { λ r. ⌜ r ≤ 1 ⌝ }
+    ensures { λ r. ⌜ (r ≡ oneWhere fact) × (r ≤ 1) ⌝ }
 {
     if fact { 1 } else { 0 }
 }
 
-// The unsure cells of a line or an array.
-pub fn unsure(cells: &[u8]) -> u64
-    ensures { λ r. ⌜ r ≤ length (now (cells .entry)) ⌝ }
+// The first n cells of a line that are like a given one: for 2 the unsure ones, for 1 the ones.
+pub fn like(cell: u8, n: usize, line: Line) -> u64
+    requires { ⌜ n ≤ 64 ⌝ }
+    ensures { λ r. ⌜ (r ≡ sumTo (isLike cell line) n) × (r ≤ n) ⌝ }
 {
-    let n = cells.len();
     let mut many: u64 = 0;
     for i in 0..n {
-        many += one_if(cells[i] == 2);
+        many += one_if(line[i] == cell);
     }
     many
 }
 
-// The known cells of a line in which a word differs from it.
-fn differences(line: &[u8], word: &[u8]) -> u64
-    requires { ⌜ length (now word) ≡ length (now line) ⌝ }
+// The unsure cells of a line.
+pub fn unsure(n: usize, line: Line) -> u64
+    requires { ⌜ n ≤ 64 ⌝ }
+    ensures { λ r. ⌜ (r ≡ sumTo (isLike 2 line) n) × (r ≤ n) ⌝ }
 {
-    let n = line.len();
+    like(2, n, line)
+}
+
+// The known cells of a line in which a word differs from it.
+fn differences(n: usize, line: Line, word: Line) -> u64
+    requires { ⌜ n ≤ 64 ⌝ }
+    ensures { λ r. ⌜ (r ≡ sumTo (differsAt line word) n) × (r ≤ n) ⌝ }
+{
     let mut many: u64 = 0;
     for i in 0..n {
         many += one_if((line[i] != 2) & (line[i] != word[i]));
@@ -54,62 +71,68 @@ fn differences(line: &[u8], word: &[u8]) -> u64
     many
 }
 
-// Decodes the word that a filling word makes of a line. A codeword with fewer than so many differences at the known cells is
-// written to `out`. Gives its differences; where there is none, the number that it was handed.
-fn decode_filled(weights: &[u16], line: &[u8], filling: u64, most: u64, out: &mut [u8]) -> u64
-    requires { ⌜ (length (now weights) ≤ 64) × (length (now line) ≡ length (now weights)) × (length (now out) ≡ length (now weights)) ⌝ }
-    ensures { λ _. ⌜ length (now (out .exit)) ≡ length (now (out .entry)) ⌝ }
+// Of what the two filled words gave, that with fewer differences at the known cells; at a tie word one's.
+fn choose(n: usize, line: Line, one: Attempt, two: Attempt) -> Attempt
+    requires { ⌜ n ≤ 64 ⌝ }
+    ensures { λ r. ⌜ (r .found ≡ false → r .line ≡ line) × (Below 3 line → Below 2 (one .line) → Below 2 (two .line) → Below 3 (r .line)) ⌝ }
 {
-    let n = weights.len();
-    let mut room = [0u8; 64];
-    let word = &mut room[..n];
-    fill(line, filling, word);
-    let found = bounded_distance(weights, word);
-    let wrong = differences(line, word);
-    if found & (wrong < most) {
-        copy_cells(word, out);
-        wrong
+    let word_one = one.line;
+    let word_two = two.line;
+    let fewer = differences(n, line, word_two) < differences(n, line, word_one);
+    if two.found & (fewer | !one.found) {
+        Attempt {
+            found: true,
+            line: word_two,
+        }
+    } else if one.found {
+        Attempt {
+            found: true,
+            line: word_one,
+        }
     } else {
-        most
+        Attempt {
+            found: false,
+            line: line,
+        }
     }
 }
 
-// No line has so many cells.
-const NONE: u64 = 65;
-
-// Line decoding, written to `out`, and whether it succeeds. A line that fails is given back as it came. At a tie it is word one's.
-pub fn decode(weights: &[u16], line: &[u8], filling: u64, out: &mut [u8]) -> bool
-    requires { ⌜ (length (now weights) ≤ 64) × (length (now line) ≡ length (now weights)) × (length (now out) ≡ length (now weights)) ⌝ }
-    ensures { λ _. ⌜ length (now (out .exit)) ≡ length (now (out .entry)) ⌝ }
+// Line decoding. A line that fails is given back as it came.
+pub fn decode(n: usize, weights: &Weights, line: Line, filling: u64) -> Attempt
+    requires { ⌜ n ≤ 64 ⌝ }
+    ensures { λ r. ⌜ (r .found ≡ false → r .line ≡ line) × (Below 3 line → Below 3 (r .line)) ⌝ }
 {
-    copy_cells(line, out);
-    if unsure(line) < 6 {
-        let one = decode_filled(weights, line, filling, NONE, out);
-        decode_filled(weights, line, filling ^ 0xFFFFFFFFFFFFFFFF, one, out) < NONE
+    if unsure(n, line) < 6 {
+        let one = bounded_distance(n, weights, fill(n, line, filling));
+        let two = bounded_distance(n, weights, fill(n, line, filling ^ 0xFFFFFFFFFFFFFFFF));
+        choose(n, line, one, two)
     } else {
-        false
+        Attempt {
+            found: false,
+            line: line,
+        }
     }
 }
 
 // ---- the clauses, in document 01's order; they are used for the count alone
 
-pub const EQUAL: usize = 0;
+const EQUAL: usize = 0;
 
-pub const CROWDED: usize = 1;
+const CROWDED: usize = 1;
 
-pub const BOTH: usize = 2;
+const BOTH: usize = 2;
 
-pub const NEITHER: usize = 3;
+const NEITHER: usize = 3;
 
-pub const AGREEING: usize = 4;
+const AGREEING: usize = 4;
 
-pub const UNCHANGED: usize = 5;
+const UNCHANGED: usize = 5;
 
-pub const OPEN: usize = 6;
+const OPEN: usize = 6;
 
-pub const AFRESH: usize = 7;
+const AFRESH: usize = 7;
 
-pub const CHANNEL: usize = 8;
+const CHANNEL: usize = 8;
 
 // What the clauses ask of one filling at cell k.
 struct Filling {
@@ -122,29 +145,34 @@ struct Filling {
     replaced_cell: u8,
 }
 
-fn filling_at(weights: &[u16], incoming: &[u8], replaced: &[u8], filling: u64, k: usize) -> Filling
-    requires { ⌜ (length (now weights) ≤ 64) × (length (now incoming) ≡ length (now weights)) × (length (now replaced) ≡ length (now weights)) × (k < length (now weights)) ⌝ }
+fn filling_at(
+    n: usize,
+    weights: &Weights,
+    incoming: Line,
+    replaced: Line,
+    filling: u64,
+    k: usize,
+) -> Filling
+    requires { ⌜ (n ≤ 64) × (k < n) ⌝ }
 {
-    let n = weights.len();
-    let mut room = [0u8; 64];
-    let mut other_room = [0u8; 64];
-    let before = &mut room[..n];
-    let after = &mut other_room[..n];
-    fill(incoming, filling, before);
-    fill(replaced, filling, after);
-    let unchanged = differences(before, after) == 0;
-    let found = bounded_distance(weights, before);
-    let near = differences(before, after) <= 2;
+    let before = fill(n, incoming, filling);
+    let after = fill(n, replaced, filling);
+    let decoded = bounded_distance(n, weights, before);
+    let codeword = decoded.line;
+    let unchanged = differences(n, before, after) == 0;
+    let near = differences(n, codeword, after) <= 2;
     Filling {
-        in_reach: found & near,
+        in_reach: decoded.found & near,
         unchanged: unchanged,
-        codeword_cell: before[k],
+        codeword_cell: codeword[k],
         replaced_cell: after[k],
     }
 }
 
 // One filling is in reach and the other is not.
-fn clause_of_one(reached: Filling, other: Filling) -> usize {
+fn clause_of_one(reached: Filling, other: Filling) -> usize
+    ensures { λ r. ⌜ r ≤ 8 ⌝ }
+{
     if reached.codeword_cell == other.replaced_cell {
         AGREEING
     } else if other.unchanged {
@@ -154,7 +182,9 @@ fn clause_of_one(reached: Filling, other: Filling) -> usize {
     }
 }
 
-fn clause_by_reach(one: Filling, two: Filling, channel_cell: u8) -> usize {
+fn clause_by_reach(one: Filling, two: Filling, channel_cell: u8) -> usize
+    ensures { λ r. ⌜ r ≤ 8 ⌝ }
+{
     if one.in_reach & two.in_reach {
         BOTH
     } else if one.in_reach {
@@ -169,10 +199,18 @@ fn clause_by_reach(one: Filling, two: Filling, channel_cell: u8) -> usize {
 }
 
 // The clause that settles cell k: the first that fits. `replaced` is the incoming line with the channel's cell k.
-fn clause(weights: &[u16], incoming: &[u8], replaced: &[u8], filling: u64, k: usize) -> usize
-    requires { ⌜ (length (now weights) ≤ 64) × (length (now incoming) ≡ length (now weights)) × (length (now replaced) ≡ length (now weights)) × (k < length (now weights)) ⌝ }
+fn clause(
+    n: usize,
+    weights: &Weights,
+    incoming: Line,
+    replaced: Line,
+    filling: u64,
+    k: usize,
+) -> usize
+    requires { ⌜ (n ≤ 64) × (k < n) ⌝ }
+    ensures { λ r. ⌜ r ≤ 8 ⌝ }
 {
-    let coming = unsure(incoming);
+    let coming = unsure(n, incoming);
     if 6 < coming {
         CHANNEL
     } else if coming == 6 {
@@ -183,63 +221,69 @@ fn clause(weights: &[u16], incoming: &[u8], replaced: &[u8], filling: u64, k: us
         }
     } else if incoming[k] == replaced[k] {
         EQUAL
-    } else if unsure(replaced) == 6 {
+    } else if unsure(n, replaced) == 6 {
         CROWDED
     } else {
-        let one = filling_at(weights, incoming, replaced, filling, k);
-        let two = filling_at(weights, incoming, replaced, filling ^ 0xFFFFFFFFFFFFFFFF, k);
+        let one = filling_at(n, weights, incoming, replaced, filling, k);
+        let two = filling_at(
+            n,
+            weights,
+            incoming,
+            replaced,
+            filling ^ 0xFFFFFFFFFFFFFFFF,
+            k,
+        );
         clause_by_reach(one, two, replaced[k])
     }
 }
 
 // The decodings that a clause adds to the two of its line.
-const COST: [u64; 16] = [0, 0, 0, 0, 0, 0, 1, 2, 0, 0, 0, 0, 0, 0, 0, 0];
-
-// The message at cell k: cell k of the line decoding of the incoming line with cell k replaced by the channel's. Gives what the cell adds
-// to the line's count: 1 if it is open, 2 if it is decoded afresh. The clause that was met is noted in `met`.
-fn send(
-    weights: &[u16],
-    incoming: &[u8],
-    channel: &[u8],
-    filling: u64,
-    k: usize,
-    out: &mut [u8],
-    met: &mut [u64; 16],
-) -> u64
-    requires { ⌜ (length (now weights) ≤ 64) × (length (now incoming) ≡ length (now weights)) × (length (now channel) ≡ length (now weights)) × (k < length (now weights)) × (length (now out) ≡ length (now weights)) ⌝ }
-    ensures { λ _. ⌜ length (now (out .exit)) ≡ length (now (out .entry)) ⌝ }
+fn cost(clause: usize) -> u64
+    ensures { λ r. ⌜ r ≤ 2 ⌝ }
 {
-    let n = weights.len();
-    let mut room = [0u8; 64];
-    let mut other_room = [0u8; 64];
-    let replaced = &mut room[..n];
-    let decoded = &mut other_room[..n];
-    copy_cells(incoming, replaced);
-    replaced[k] = channel[k];
-    decode(weights, replaced, filling, decoded);
-    out[k] = decoded[k];
-    let fits = clause(weights, incoming, replaced, filling, k);
-    tick_if(met, fits, true);
-    COST[fits % 16]
+    if clause == OPEN {
+        1
+    } else if clause == AFRESH {
+        2
+    } else {
+        0
+    }
 }
 
-// All messages of a line, one decoding per cell. Gives the count: 2 if fewer than 6 unsure cells come in, and what the cells add.
+// The messages of a line, and its count.
+pub struct Outgoing {
+    pub count: u64,
+    pub line: Line,
+}
+
+// All messages of a line. The message at cell k is cell k of the line decoding of the incoming line with cell k replaced by the
+// channel's: one decoding per cell. The count is 2 if fewer than 6 unsure cells come in, plus 1 for each cell that is open, plus 2 for
+// each that is decoded afresh.
 pub fn messages(
-    weights: &[u16],
-    incoming: &[u8],
-    channel: &[u8],
+    n: usize,
+    weights: &Weights,
+    incoming: Line,
+    channel: Line,
     filling: u64,
-    out: &mut [u8],
-    met: &mut [u64; 16],
-) -> u64
-    requires { ⌜ (length (now weights) ≤ 64) × (length (now incoming) ≡ length (now weights)) × (length (now channel) ≡ length (now weights)) × (length (now out) ≡ length (now weights)) ⌝ }
-    ensures { λ _. ⌜ length (now (out .exit)) ≡ length (now (out .entry)) ⌝ }
+    tally: &mut Totals,
+) -> Outgoing
+    requires { ⌜ n ≤ 64 ⌝ }
+    ensures { λ r. ⌜ (r .count ≤ 2 + 2 * n) × (Below 3 incoming → Below 3 channel → Below 3 (r .line)) ⌝ }
 {
-    let n = weights.len();
-    let mut count = 2 * one_if(unsure(incoming) < 6);
+    let mut sent = [0u8; 64];
+    let mut count = 2 * one_if(unsure(n, incoming) < 6);
     for k in 0..n {
-        let more = send(weights, incoming, channel, filling, k, out, met);
-        count = wrapping_add_u64(count, more);
+        let mut replaced = incoming;
+        replaced[k] = channel[k];
+        let decoded = decode(n, weights, replaced, filling);
+        let line = decoded.line;
+        sent[k] = line[k];
+        let fits = clause(n, weights, incoming, replaced, filling, k);
+        tick_if(tally, CLAUSES + fits, true);
+        count += cost(fits);
     }
-    count
+    Outgoing {
+        count: count,
+        line: sent,
+    }
 }

@@ -1,16 +1,20 @@
 // What the program `sheet` reads and prints, read and printed here anew from document 01.
-use crate::arrays::bad_columns;
+use crate::arrays::Cells;
+use crate::arrays::area_of;
+use crate::arrays::columns_of;
 use crate::arrays::decode;
-use crate::lines::unsure;
+use crate::codewords::Weights;
 ghost use Prim.Native.Nat.{_≤_, _<_};
-ghost use mathlib.Core.Path.{_≡_};
-ghost use lib.ListN.{length};
+
+// Room for the longest text.
+pub type Text = [u8; 4300];
 
 // A byte at a place, where there is room; gives the next place.
-fn put_byte(byte: u8, at: usize, output: &mut [u8]) -> usize
-    ensures { λ _. ⌜ length (now (output .exit)) ≡ length (now (output .entry)) ⌝ }
+fn put_byte(byte: u8, at: usize, output: &mut Text) -> usize
+    requires { ⌜ at ≤ 4300 ⌝ }
+    ensures { λ r. ⌜ r ≤ 4300 ⌝ }
 {
-    if at < output.len() {
+    if at < 4300 {
         output[at] = byte;
         at + 1
     } else {
@@ -19,9 +23,9 @@ fn put_byte(byte: u8, at: usize, output: &mut [u8]) -> usize
 }
 
 // Cell i as a character, and a newline after the last of a row.
-fn put_cell(n: usize, i: usize, cell: u8, at: usize, output: &mut [u8]) -> usize
-    requires { ⌜ (0 < n) × (i < 4096) ⌝ }
-    ensures { λ _. ⌜ length (now (output .exit)) ≡ length (now (output .entry)) ⌝ }
+fn put_cell(n: usize, i: usize, cell: u8, at: usize, output: &mut Text) -> usize
+    requires { ⌜ (0 < n) × (i < 4096) × (at ≤ 4300) ⌝ }
+    ensures { λ r. ⌜ r ≤ 4300 ⌝ }
 {
     let next = put_byte(if cell == 2 { 63 } else { 48 + cell % 2 }, at, output);
     if (i + 1) % n == 0 {
@@ -32,11 +36,11 @@ fn put_cell(n: usize, i: usize, cell: u8, at: usize, output: &mut [u8]) -> usize
 }
 
 // The n lines of an array: its cells as characters, and a newline after each row. Gives the place after them.
-pub fn put_lines(n: usize, cells: &[u8], at: usize, output: &mut [u8]) -> usize
-    requires { ⌜ (0 < n) × (length (now cells) ≤ 4096) ⌝ }
-    ensures { λ _. ⌜ length (now (output .exit)) ≡ length (now (output .entry)) ⌝ }
+pub fn put_lines(n: usize, cells: &Cells, at: usize, output: &mut Text) -> usize
+    requires { ⌜ (0 < n) × (n ≤ 64) × (at ≤ 4300) ⌝ }
+    ensures { λ r. ⌜ r ≤ 4300 ⌝ }
 {
-    let area = cells.len();
+    let area = area_of(n);
     let mut next = at;
     for i in 0..area {
         next = put_cell(n, i, cells[i], next, output);
@@ -44,21 +48,24 @@ pub fn put_lines(n: usize, cells: &[u8], at: usize, output: &mut [u8]) -> usize
     next
 }
 
-fn read_byte(byte: u8, at: usize, cells: &mut [u8]) -> usize
-    ensures { λ _. ⌜ length (now (cells .exit)) ≡ length (now (cells .entry)) ⌝ }
+// The cell of a character at a place, where a newline has none; gives the next place.
+fn read_byte(byte: u8, at: usize, cells: &mut Cells) -> usize
+    requires { ⌜ at < 4096 ⌝ }
+    ensures { λ r. ⌜ r < 4096 ⌝ }
 {
     if byte == 10 {
         at
     } else {
-        put_byte(if byte == 63 { 2 } else { byte % 2 }, at, cells)
+        cells[at] = if byte == 63 { 2 } else { byte % 2 };
+        (at + 1) % 4096
     }
 }
 
 // The refusal number of the lines of an input, whose cells are read. Newlines stand at the ends of lines and nowhere else, so each
 // other byte is the next cell.
-fn read_lines(n: usize, input: &[u8], cells: &mut [u8]) -> u64
+fn read_lines(n: usize, input: &[u8], cells: &mut Cells) -> u64
     requires { ⌜ n ≤ 64 ⌝ }
-    ensures { λ _. ⌜ length (now (cells .exit)) ≡ length (now (cells .entry)) ⌝ }
+    ensures { λ r. ⌜ r ≤ 4 ⌝ }
 {
     let long = input.len();
     let mut newlines = true;
@@ -80,9 +87,9 @@ fn read_lines(n: usize, input: &[u8], cells: &mut [u8]) -> u64
 }
 
 // The refusal number of an input, whose cells are read.
-fn read_input(n: usize, input: &[u8], cells: &mut [u8]) -> u64
+fn read_input(n: usize, input: &[u8], cells: &mut Cells) -> u64
     requires { ⌜ n ≤ 64 ⌝ }
-    ensures { λ _. ⌜ length (now (cells .exit)) ≡ length (now (cells .entry)) ⌝ }
+    ensures { λ r. ⌜ r ≤ 4 ⌝ }
 {
     let long = input.len();
     if long < 2 {
@@ -97,8 +104,9 @@ fn read_input(n: usize, input: &[u8], cells: &mut [u8]) -> u64
 }
 
 // A number in decimal, and the byte after it.
-fn put_number(number: u64, end: u8, at: usize, output: &mut [u8]) -> usize
-    ensures { λ _. ⌜ length (now (output .exit)) ≡ length (now (output .entry)) ⌝ }
+fn put_number(number: u64, end: u8, at: usize, output: &mut Text) -> usize
+    requires { ⌜ at ≤ 4300 ⌝ }
+    ensures { λ r. ⌜ r ≤ 4300 ⌝ }
 {
     let mut digits = [0u8; 20];
     let many = io::decimal(number, &mut digits);
@@ -109,8 +117,8 @@ fn put_number(number: u64, end: u8, at: usize, output: &mut [u8]) -> usize
     put_byte(end, next, output)
 }
 
-fn put_numbers(a: u64, b: u64, c: u64, d: u64, output: &mut [u8]) -> usize
-    ensures { λ _. ⌜ length (now (output .exit)) ≡ length (now (output .entry)) ⌝ }
+fn put_numbers(a: u64, b: u64, c: u64, d: u64, output: &mut Text) -> usize
+    ensures { λ r. ⌜ r ≤ 4300 ⌝ }
 {
     let second = put_number(a, 32, 0, output);
     let third = put_number(b, 32, second, output);
@@ -118,33 +126,43 @@ fn put_numbers(a: u64, b: u64, c: u64, d: u64, output: &mut [u8]) -> usize
     put_number(d, 10, fourth, output)
 }
 
-// What is printed for an input, and its length; the room is lent for the cells that are read and for those that come out.
-pub fn sheet_text(
-    weights: &[u16],
-    input: &[u8],
-    received: &mut [u8],
-    cells: &mut [u8],
-    output: &mut [u8],
-) -> usize
-    requires { ⌜ (0 < length (now weights)) × (length (now weights) ≤ 64) × (0 < length (now received)) × (length (now cells) ≡ length (now received)) × (length (now received) ≤ 4096) ⌝ }
-    ensures { λ _. ⌜ length (now (output .exit)) ≡ length (now (output .entry)) ⌝ }
+// The received array is decoded by one iteration with filling words of zero, and printed.
+fn put_decoded(n: usize, weights: &Weights, received: &Cells, output: &mut Text) -> usize
+    requires { ⌜ (0 < n) × (n ≤ 64) ⌝ }
+    ensures { λ r. ⌜ r ≤ 4300 ⌝ }
 {
-    let n = weights.len();
-    let refusal = read_input(n, input, received);
+    let filling = [0u64; 2560];
+    let mut tally = [0u64; 32];
+    let mut cells = *received;
+    let count = decode(
+        n,
+        weights,
+        received,
+        &filling,
+        2 * n,
+        &mut cells,
+        &mut tally,
+    );
+    let left = columns_of(n, weights, &cells);
+    let closed = if (left.unsure == 0) & (left.bad == 0) {
+        1
+    } else {
+        0
+    };
+    let next = put_numbers(0, count, left.unsure, closed, output);
+    put_lines(n, &cells, next, output)
+}
+
+// What is printed for an input, and its length.
+pub fn sheet_text(n: usize, weights: &Weights, input: &[u8], output: &mut Text) -> usize
+    requires { ⌜ (0 < n) × (n ≤ 64) ⌝ }
+    ensures { λ r. ⌜ r ≤ 4300 ⌝ }
+{
+    let mut received = [0u8; 4096];
+    let refusal = read_input(n, input, &mut received);
     if refusal != 0 {
         put_numbers(refusal, 0, 0, 0, output)
     } else {
-        let filling = [0u64; 128];
-        let mut met = [0u64; 16];
-        let lines = 2 * n;
-        let count = decode(weights, received, &filling[..lines], cells, &mut met);
-        let left = unsure(cells);
-        let closed = if (left == 0) & (bad_columns(weights, cells) == 0) {
-            1
-        } else {
-            0
-        };
-        let next = put_numbers(0, count, left, closed, output);
-        put_lines(n, cells, next, output)
+        put_decoded(n, weights, &received, output)
     }
 }

@@ -1,4 +1,4 @@
--- `make_filling` is safe and ends: the measure is the turns left. Assumes nothing.
+-- `make_filling` is safe and meets its contract. Assumes nothing.
 use Prim.Native.Nat.{_≤_, _-_}
 use borrow.Author.Needs.{needs}
 use Rattle.agreement.proofs.make_filling.Statement.{statement}

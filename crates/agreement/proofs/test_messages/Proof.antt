@@ -1,30 +1,22 @@
 -- `test_messages` is safe and meets its contract. Assumes nothing.
-use lib.ListN.{length}
 use borrow.Author.Needs.{needs}
-use mathlib.Core.Path.{sym, ap, _∙_}
-use native.Mathlib.Nat.{lt-of-lt-of-le, le-of-eq, le-trans}
 use lib.Seq.{length-take-le}
+use mathlib.Core.Path.{sym}
 use Rattle.agreement.proofs.test_messages.Statement.{statement}
 use Rattle.agreement.proofs.test_messages.Tie as tie
-
-slice-aggregate-own-part : tie.Need-slice-aggregate-own-part
-slice-aggregate-own-part c = sym (length-take-le _ _ (search needs))
-
-slice-aggregate-given-part : tie.Need-slice-aggregate-given-part
-slice-aggregate-given-part c = sym (length-take-le _ _ (search needs))
-
-messages-requires : tie.Need-messages-requires
-messages-requires c κs = (c .before .before .before .before .before .before .before .pre .0, c .before .before .before .before .before .before .before .pre .1, c .before .before .before .before .before .before .before .pre .2, length-take-le _ _ (c .before .before .before .before .before .before .before .pre .0))
 
 pub test-messages-spec : {M : Type 1} → statement M
 test-messages-spec =
     tie.close
     (tie.spec
+    (λ c κs. search needs)
+    (λ c κs. search needs)
     (λ c. search needs)
-    slice-aggregate-own-part
+    (λ c. sym (length-take-le _ _ (search needs)))
     (λ c. search needs)
-    slice-aggregate-given-part
-    messages-requires
+    (λ c. sym (length-take-le _ _ (search needs)))
+    (λ c. search needs)
+    (λ c. sym (length-take-le _ _ (search needs)))
     (λ c κs. search needs)
     (λ c. search needs)
     (λ c. search needs)

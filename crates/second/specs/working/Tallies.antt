@@ -1,4 +1,4 @@
--- Tallies: 16 counts, which wrap past 64 bits.
+-- Tallies: 32 counts, which wrap past 64 bits.
 use mathlib.Core.Bool.{Bool, cond}
 use mathlib.Core.List.{List}
 use Prim.Native.Nat.{ℕ, _+_, _*_, _/_, _%_, _^_}
@@ -11,7 +11,7 @@ next count = (count + 1) % 2 ^ 64
 
 -- one more at a place where the fact holds
 abbrev pub ticked : (fact : Bool) (place : ℕ) → List ℕ → List ℕ
-ticked fact place tally = cond fact (set tally (place % 16) (next (getD tally (place % 16) 0))) tally
+ticked fact place tally = cond fact (set tally (place % 32) (next (getD tally (place % 32) 0))) tally
 
 -- 64 bits, stirred by shifts
 abbrev pub stirred : ℕ → ℕ

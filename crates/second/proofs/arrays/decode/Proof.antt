@@ -1,24 +1,21 @@
--- `arrays::decode` is safe and ends: the measure is the turns left. Assumes nothing.
-use Prim.Native.Nat.{_≤_, _-_}
-use mathlib.Core.Path.{_≡_, ap}
-use lib.ListN.{length}
-use native.Mathlib.Omega.{arith}
+-- `arrays::decode` meets its contract: a line counts 130 at most. Assumes nothing.
+use Prim.Native.Nat.{_≤_, _-_, _*_}
 use borrow.Author.Needs.{needs}
-use native.Mathlib.Nat.{mod-lt, lt-of-lt-of-le}
+use native.Mathlib.Nat.{mod-lt}
+use Rattle.second.specs.working.Loops.{Below}
 use Rattle.second.proofs.arrays.decode.Statement.{statement}
 use Rattle.second.proofs.arrays.decode.Tie as tie
 
 abbrev Inv-loop : tie.InvT-loop
-Inv-loop weights received filling cells₀ met₀ lines many sum₀ w₀ cells met sum w = (w ≤ many) × (length cells ≡ length received)
+Inv-loop n weights received filling many cells₀ tally₀ lines sum₀ w₀ cells tally sum w = (w ≤ many) × (sum ≤ 130 * w) × (Below 3 received → Below 3 cells₀ → Below 3 cells)
 
 abbrev μ-loop : tie.MeasureT-loop
-μ-loop weights received filling cells₀ met₀ lines many sum₀ w₀ cells met sum w = many - w
+μ-loop n weights received filling many cells₀ tally₀ lines sum₀ w₀ cells tally sum w = many - w
 
-loop-holds : tie.Need-loop-holds Inv-loop μ-loop
-loop-holds c = (search needs, ap length (c .before .before .copy-cells .ensures))
-
-renew-line-requires : tie.Need-renew-line-requires Inv-loop μ-loop
-renew-line-requires c κs = (c .before .before .before .before .before .before .before .before .before .before .before .before .before .pre .1, lt-of-lt-of-le (mod-lt _ (omega arith)) (omega arith), c .before .before .before .before .before .before .before .before .before .before .before .before .before .pre .2, omega arith)
+loop-again : tie.Need-loop-again Inv-loop μ-loop
+loop-again c =
+    let turn = c .before .before .before .before .before .loop in
+    (search needs, search needs, λ h g. c .renew-line .ensures .1 h (turn .inv .2 h g))
 
 pub decode-spec : {M : Type 1} → statement M
 decode-spec =
@@ -26,16 +23,14 @@ decode-spec =
     (tie.spec
     Inv-loop
     μ-loop
-    (λ c κs. search needs)
     (λ c. search needs)
-    loop-holds
-    (λ c. search needs)
-    (λ c. search needs)
-    (λ c. search needs)
-    renew-line-requires
-    (λ c κs. search needs)
+    (λ c. (search needs, search needs, λ h g. g))
     (λ c. search needs)
     (λ c. search needs)
     (λ c. search needs)
+    (λ c κs. (search needs, mod-lt _ (search needs)))
     (λ c. search needs)
-    (λ c. search needs))
+    (λ c. search needs)
+    (λ c. search needs)
+    loop-again
+    (λ c. (search needs, c .before .loop .inv .2)))

@@ -1,6 +1,6 @@
 -- `arrays::place` is safe and meets its contract. Assumes nothing.
 use native.Mathlib.Omega.{arith}
-use borrow.Author.Needs.{needs}
+use borrow.Author.Tests.{lt-ltb, le-ltb}
 use Rattle.second.proofs.Places.{small}
 use Rattle.second.proofs.arrays.place.Statement.{statement}
 use Rattle.second.proofs.arrays.place.Tie as tie
@@ -25,5 +25,5 @@ place-spec =
     add-result
     mul-result-2
     add-result-2
-    (λ c. search needs)
-    (λ c. search needs))
+    (λ c. (simp (lt-ltb _ _ (c .if1 .taken)), omega (arith, small _ _ (c .if1 .taken) (c .before .pre .0))))
+    (λ c. (simp (le-ltb _ _ (c .if1 .left)), omega (arith, small _ _ (c .before .pre .2) (c .before .pre .0)))))

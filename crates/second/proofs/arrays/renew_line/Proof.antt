@@ -1,46 +1,26 @@
--- `arrays::renew_line` is safe and meets its contract. Assumes nothing.
-use lib.ListN.{length}
+-- `arrays::renew_line` meets its contract: lines taken, messages and lines put are of cells. Assumes nothing.
+use native.Mathlib.Omega.{arith}
 use borrow.Author.Needs.{needs}
-use mathlib.Core.Path.{_∙_, sym}
-use native.Mathlib.Nat.{le-trans, le-of-eq}
-use lib.Seq.{length-take-le}
+use Rattle.second.proofs.Ranges.{below-taken, below-with}
 use Rattle.second.proofs.arrays.renew_line.Statement.{statement}
 use Rattle.second.proofs.arrays.renew_line.Tie as tie
 
-slice-aggregate-incoming : tie.Need-slice-aggregate-incoming
-slice-aggregate-incoming c = sym (length-take-le _ _ (search needs))
-
-slice-aggregate-channel : tie.Need-slice-aggregate-channel
-slice-aggregate-channel c = sym (length-take-le _ _ (search needs))
-
-slice-aggregate-sent : tie.Need-slice-aggregate-sent
-slice-aggregate-sent c = sym (length-take-le _ _ (search needs))
-
-take-line-requires : tie.Need-take-line-requires
-take-line-requires c κs = (c .before .before .before .before .before .before .before .before .pre .1, c .before .before .before .before .before .before .before .before .pre .3, le-trans (le-of-eq (length-take-le _ _ (c .before .before .before .before .before .before .before .before .pre .0))) (c .before .before .before .before .before .before .before .before .pre .0))
-
-take-line-requires-2 : tie.Need-take-line-requires-2
-take-line-requires-2 c κs = (c .before .before .before .before .before .before .before .before .before .before .before .before .pre .1, c .before .before .before .before .before .before .before .before .before .before .before .before .pre .2, le-trans (le-of-eq (length-take-le _ _ (c .before .before .before .before .before .before .before .before .before .before .before .before .pre .0))) (c .before .before .before .before .before .before .before .before .before .before .before .before .pre .0))
-
-messages-requires : tie.Need-messages-requires
-messages-requires c κs = (c .before .before .before .before .before .before .before .before .before .before .before .before .before .before .before .before .before .before .before .pre .0, c .before .before .before .before .before .before .before .before .before .before .take-line .ensures ∙ length-take-le _ _ (c .before .before .before .before .before .before .before .before .before .before .before .before .before .before .before .before .before .before .before .pre .0), c .before .before .before .before .before .before .take-line2 .ensures ∙ length-take-le _ _ (c .before .before .before .before .before .before .before .before .before .before .before .before .before .before .before .before .before .before .before .pre .0), length-take-le _ _ (c .before .before .before .before .before .before .before .before .before .before .before .before .before .before .before .before .before .before .before .pre .0))
-
-put-line-requires : tie.Need-put-line-requires
-put-line-requires c κs = (c .before .before .before .before .before .before .before .before .before .before .before .before .before .before .before .before .before .before .before .before .before .before .before .before .before .before .pre .1, c .before .before .before .before .before .before .before .before .before .before .before .before .before .before .before .before .before .before .before .before .before .before .before .before .before .before .pre .3, le-trans (le-of-eq (c .before .before .before .before .before .before .messages .ensures ∙ length-take-le _ _ (c .before .before .before .before .before .before .before .before .before .before .before .before .before .before .before .before .before .before .before .before .before .before .before .before .before .before .pre .0))) (c .before .before .before .before .before .before .before .before .before .before .before .before .before .before .before .before .before .before .before .before .before .before .before .before .before .before .pre .0))
+returns : tie.Need-returns
+returns c =
+    let sent = c .before .before .before in
+    let channel = sent .before .before in
+    let incoming = channel .before in
+    let s = incoming .before .before .args in
+    let n = s .n in
+    let i = s .i in
+    (search needs, λ h g. rw (c .put-line .ensures) (below-with n i 3 (sent .messages .result .line) (s .cells .now) (sent .messages .ensures .1 (rw (incoming .take-line .ensures) (below-taken n i 3 (s .cells .now) (omega arith) g)) (rw (channel .take-line2 .ensures) (below-taken n i 3 (s .received .now) (omega arith) h))) g))
 
 pub renew-line-spec : {M : Type 1} → statement M
 renew-line-spec =
     tie.close
     (tie.spec
-    (λ c. search needs)
-    slice-aggregate-incoming
-    (λ c. search needs)
-    slice-aggregate-channel
-    (λ c. search needs)
-    slice-aggregate-sent
-    take-line-requires
-    take-line-requires-2
-    messages-requires
-    put-line-requires
-    (λ c. search needs)
-    (λ c. search needs))
+    (λ c κs. search needs)
+    (λ c κs. search needs)
+    (λ c κs. search needs)
+    (λ c κs. search needs)
+    returns)

@@ -1,23 +1,34 @@
--- `encoding::encode_array` is safe and ends: the measure is the turns left. Assumes nothing.
-use Prim.Native.Nat.{_≤_, _-_}
-use mathlib.Core.Path.{_≡_, sym}
-use lib.ListN.{length}
+-- `encoding::encode_array` meets its contract. The loop's invariant: the first lines are encoded. Assumes nothing.
+use Prim.Native.Nat.{_+_, _≤_, _-_}
+use mathlib.Core.Path.{_≡_, refl}
+use native.Mathlib.Omega.{arith}
 use borrow.Author.Needs.{needs}
-use lib.Seq.{length-take-le}
+use Rattle.second.specs.working.Encoding.{encodedTo}
+use Rattle.second.proofs.Loops.{encoded-next}
 use Rattle.second.proofs.encoding.encode_array.Statement.{statement}
 use Rattle.second.proofs.encoding.encode_array.Tie as tie
 
 abbrev Inv-loop : tie.InvT-loop
-Inv-loop weights settings cells₀ n line₀ lines i₀ cells line i = (i ≤ lines) × (length line ≡ n) × (length cells ≡ length cells₀)
+Inv-loop n cells₀ lines i₀ cells i = (i ≤ lines) × (cells ≡ encodedTo n i cells₀)
 
 abbrev μ-loop : tie.MeasureT-loop
-μ-loop weights settings cells₀ n line₀ lines i₀ cells line i = lines - i
-
-slice-aggregate-line : tie.Need-slice-aggregate-line Inv-loop μ-loop
-slice-aggregate-line c = sym (length-take-le _ _ (search needs))
+μ-loop n cells₀ lines i₀ cells i = lines - i
 
 loop-holds : tie.Need-loop-holds Inv-loop μ-loop
-loop-holds c = (search needs, length-take-le _ _ (search needs), search needs)
+unfolding encodedTo
+loop-holds c = (search needs, refl)
+
+loop-again : tie.Need-loop-again Inv-loop μ-loop
+loop-again c =
+    let turn = c .before .before .before .before .before .before .loop in
+    let s = c .before .before .before .before .before .before .before .args in
+    (search needs, cc (encoded-next (s .n) (turn .i) (s .cells .now) (turn .inv .1)))
+
+returns : tie.Need-returns Inv-loop μ-loop
+returns c =
+    let s = c .before .before .args in
+    let all : c .before .loop .i ≡ s .n + s .n = omega arith in
+    cc
 
 pub encode-array-spec : {M : Type 1} → statement M
 encode-array-spec =
@@ -26,14 +37,11 @@ encode-array-spec =
     Inv-loop
     μ-loop
     (λ c. search needs)
-    slice-aggregate-line
-    (λ c. search needs)
     loop-holds
     (λ c κs. search needs)
     (λ c κs. search needs)
     (λ c κs. search needs)
     (λ c. search needs)
     (λ c. search needs)
-    (λ c. search needs)
-    (λ c. search needs)
-    (λ c. search needs))
+    loop-again
+    returns)

@@ -1,16 +1,32 @@
--- `encoding::put_checks` is safe and ends: the measure is the turns left. Assumes nothing.
+-- `encoding::put_checks` meets its contract. The loop's invariant: the first cells are written. Assumes nothing.
 use Prim.Native.Nat.{_≤_, _-_}
-use mathlib.Core.Path.{_≡_}
-use lib.ListN.{length}
+use mathlib.Core.Path.{_≡_, refl}
+use native.Mathlib.Omega.{arith}
 use borrow.Author.Needs.{needs}
+use Prim.Native.Nat.{_/_, _%_, _^_}
+use Rattle.second.specs.working.Loops.{written}
+use Rattle.second.proofs.Loops.{written-next}
 use Rattle.second.proofs.encoding.put_checks.Statement.{statement}
 use Rattle.second.proofs.encoding.put_checks.Tie as tie
 
 abbrev Inv-loop : tie.InvT-loop
-Inv-loop setting last line₀ first i₀ line i = (i ≤ first) × (length line ≡ length line₀)
+Inv-loop n checks first checked₀ i₀ checked i = (i ≤ first) × (checked ≡ written (λ k. k) (λ k. checks / 2 ^ k % 2) i checked₀)
 
 abbrev μ-loop : tie.MeasureT-loop
-μ-loop setting last line₀ first i₀ line i = first - i
+μ-loop n checks first checked₀ i₀ checked i = first - i
+
+loop-holds : tie.Need-loop-holds Inv-loop μ-loop
+unfolding written
+loop-holds c = (search needs, refl)
+
+loop-again : tie.Need-loop-again Inv-loop μ-loop
+loop-again c =
+    let turn = c .before .loop in
+    let s = c .before .before .before .args in
+    (search needs, cc (written-next (λ k. k) (λ k. s .checks / 2 ^ k % 2) (turn .i) (s .line) (turn .inv .1)))
+
+returns : tie.Need-returns Inv-loop μ-loop
+returns c = let all : c .before .loop .i ≡ c .before .before .first-message-cell .result = omega arith in cc
 
 pub put-checks-spec : {M : Type 1} → statement M
 put-checks-spec =
@@ -19,14 +35,11 @@ put-checks-spec =
     Inv-loop
     μ-loop
     (λ c κs. search needs)
+    loop-holds
     (λ c. search needs)
     (λ c. search needs)
     (λ c. search needs)
     (λ c. search needs)
     (λ c. search needs)
-    (λ c. search needs)
-    (λ c. search needs)
-    (λ c. search needs)
-    (λ c. search needs)
-    (λ c. search needs)
-    (λ c. search needs))
+    loop-again
+    returns)

@@ -1,14 +1,32 @@
--- `lines::differences` is safe and ends: the measure is the turns left. Assumes nothing.
+-- `lines::differences` meets its contract. The loop's invariant: the first cells are counted. Assumes nothing.
 use Prim.Native.Nat.{_≤_, _-_}
+use mathlib.Core.Path.{_≡_, refl}
+use native.Mathlib.Omega.{arith}
 use borrow.Author.Needs.{needs}
+use Rattle.laws.specs.Sums.{sumTo}
+use Rattle.second.specs.working.Lines.{differsAt}
+use Rattle.second.proofs.Loops.{sum-next}
 use Rattle.second.proofs.lines.differences.Statement.{statement}
 use Rattle.second.proofs.lines.differences.Tie as tie
 
 abbrev Inv-loop : tie.InvT-loop
-Inv-loop line word n many₀ i₀ many i = (i ≤ n) × (many ≤ i)
+Inv-loop n line word many₀ i₀ many i = (i ≤ n) × (many ≡ sumTo (differsAt line word) i) × (many ≤ i)
 
 abbrev μ-loop : tie.MeasureT-loop
-μ-loop line word n many₀ i₀ many i = n - i
+μ-loop n line word many₀ i₀ many i = n - i
+
+loop-holds : tie.Need-loop-holds Inv-loop μ-loop
+unfolding sumTo
+loop-holds c = (search needs, refl, search needs)
+
+loop-again : tie.Need-loop-again Inv-loop μ-loop
+loop-again c =
+    let turn = c .before .before .loop in
+    let s = c .before .before .before .args in
+    (search needs, cc (sum-next (differsAt (s .t2) (s .t3)) (turn .i) (turn .inv .1)), search needs)
+
+returns : tie.Need-returns Inv-loop μ-loop
+returns c = let all : c .before .loop .i ≡ c .before .before .args .n = omega arith in (cc, search needs)
 
 pub differences-spec : {M : Type 1} → statement M
 differences-spec =
@@ -16,7 +34,7 @@ differences-spec =
     (tie.spec
     Inv-loop
     μ-loop
-    (λ c. search needs)
+    loop-holds
     (λ c. search needs)
     (λ c. search needs)
     (λ c. search needs)
@@ -24,5 +42,5 @@ differences-spec =
     (λ c. search needs)
     (λ c. search needs)
     (λ c. search needs)
-    (λ c. search needs)
-    (λ c. search needs))
+    loop-again
+    returns)

@@ -1,13 +1,11 @@
--- `sheets::put_lines` is safe and ends: the measure is the turns left. Assumes nothing.
+-- `sheets::put_lines` is safe and meets its contract. Assumes nothing.
 use Prim.Native.Nat.{_≤_, _-_}
-use mathlib.Core.Path.{_≡_}
-use lib.ListN.{length}
 use borrow.Author.Needs.{needs}
 use Rattle.second.proofs.sheets.put_lines.Statement.{statement}
 use Rattle.second.proofs.sheets.put_lines.Tie as tie
 
 abbrev Inv-loop : tie.InvT-loop
-Inv-loop n cells at output₀ area next₀ i₀ output next i = (i ≤ area) × (length output ≡ length output₀)
+Inv-loop n cells at output₀ area next₀ i₀ output next i = (i ≤ area) × (next ≤ 4300)
 
 abbrev μ-loop : tie.MeasureT-loop
 μ-loop n cells at output₀ area next₀ i₀ output next i = area - i
@@ -18,10 +16,10 @@ put-lines-spec =
     (tie.spec
     Inv-loop
     μ-loop
+    (λ c κs. search needs)
     (λ c. search needs)
     (λ c. search needs)
     (λ c κs. search needs)
-    (λ c. search needs)
     (λ c. search needs)
     (λ c. search needs)
     (λ c. search needs)

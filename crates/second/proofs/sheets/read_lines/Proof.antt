@@ -1,13 +1,11 @@
--- `sheets::read_lines` is safe and ends: the measure is the turns left. Assumes nothing.
-use Prim.Native.Nat.{_≤_, _-_}
-use mathlib.Core.Path.{_≡_}
-use lib.ListN.{length}
+-- `sheets::read_lines` is safe and meets its contract. Assumes nothing.
+use Prim.Native.Nat.{_≤_, _<_, _-_}
 use borrow.Author.Needs.{needs}
 use Rattle.second.proofs.sheets.read_lines.Statement.{statement}
 use Rattle.second.proofs.sheets.read_lines.Tie as tie
 
 abbrev Inv-loop : tie.InvT-loop
-Inv-loop n input cells₀ long newlines₀ characters₀ next₀ p₀ cells newlines characters next p = (2 ≤ p) × (length cells ≡ length cells₀)
+Inv-loop n input cells₀ long newlines₀ characters₀ next₀ p₀ cells newlines characters next p = (2 ≤ p) × (next < 4096)
 
 abbrev μ-loop : tie.MeasureT-loop
 μ-loop n input cells₀ long newlines₀ characters₀ next₀ p₀ cells newlines characters next p = long - p
@@ -24,9 +22,6 @@ read-lines-spec =
     (λ c. search needs)
     (λ c. search needs)
     (λ c κs. search needs)
-    (λ c. search needs)
-    (λ c. search needs)
-    (λ c. search needs)
     (λ c. search needs)
     (λ c. search needs)
     (λ c. search needs)

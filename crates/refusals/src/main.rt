@@ -1,0 +1,442 @@
+// Calls that are to be turned down, and some that are not: each test of each entry failing alone and together with later ones, which gives
+// the lower number. A refused call leaves every lent cell as it was. It prints totals: one disagreement changes them.
+use array::entry::DecodeAnswer;
+use damage::arrays::KINDS;
+use damage::arrays::damage_array;
+use damage::arrays::make_sent;
+use damage::chance::below;
+use line::entry::LineAnswer;
+use line::entry::MessagesAnswer;
+use line::refusals::number_of;
+use second::arrays::area_of;
+use second::codewords::Weights;
+use second::codewords::weights_of;
+use second::encoding::message_area;
+use second::sheets::Text;
+use second::sheets::put_lines;
+use second::sheets::sheet_text;
+use second::tallies::BOUNDED_DISTANCE;
+use second::tallies::DECODE;
+use second::tallies::DECODE_LINE;
+use second::tallies::ENCODE;
+use second::tallies::EXTRACT;
+use second::tallies::LINE_MESSAGES;
+use second::tallies::OWN;
+use second::tallies::ROW;
+use second::tallies::Totals;
+use second::tallies::note;
+use second::tallies::same;
+use second::tallies::say;
+use second::tallies::tick_if;
+ghost use Prim.Native.Nat.{_≤_, _<_};
+
+// n, the cells of a line.
+fn cells_of(degree: u64) -> usize
+    ensures { λ r. ⌜ (16 ≤ r) × (r ≤ 64) ⌝ }
+{
+    if degree == 4 { 16 } else { 64 }
+}
+
+// A call is given by one number, whose digits choose the degree, the iterations, the lengths of up to three slices, the row, and
+// the cell that is spoilt in the first and in the second slice. Digit 0 is always right. How many more values than it each of the eight
+// digits has, the lowest first, for each entry:
+const MORE: [usize; 7] = [
+    0o02022233, // decode: received, filling words, cells
+    0o02020203, // encode: message, none, cells
+    0o02020203, // extract: cells, none, message
+    0o02300203, // row: cells
+    0o02000203, // bounded distance: word
+    0o02000203, // decode line: cells
+    0o22022203, // messages: incoming, channel, messages
+];
+
+fn digits_of(entry: usize, t: usize) -> [usize; 8]
+    requires { ⌜ entry < 7 ⌝ }
+{
+    let more = MORE[entry];
+    let mut digits = [0usize; 8];
+    let mut rest = t;
+    for d in 0..8 {
+        let values = 1 + (more >> (3 * d)) % 8;
+        digits[d] = rest % values;
+        rest = rest / values;
+    }
+    digits
+}
+
+const DEGREES: [u64; 4] = [4, 6, 5, 0];
+
+const ITERATIONS: [u64; 4] = [1, 20, 0, 21];
+
+// The kinds of the three slices of each entry, the first lowest; another kind than these is filling words. Then the cells of the first slice,
+// and what it is spoilt with.
+const LINE: usize = 0;
+
+const ARRAY: usize = 1;
+
+const MESSAGE: usize = 2;
+
+const SLICES: [usize; 7] = [0o131, 0o102, 0o201, 0o001, 0o000, 0o000, 0o000];
+
+const CELL: [u8; 7] = [0, 1, 2, 2, 0, 0, 2];
+
+const SPOILT_CELL: [u8; 7] = [3, 2, 3, 3, 2, 3, 3];
+
+fn right_length(kind: usize, n: usize, iterations: u64) -> usize
+    requires { ⌜ (0 < n) × (n ≤ 64) ⌝ }
+    ensures { λ r. ⌜ (0 < r) × (r ≤ 4096) ⌝ }
+{
+    if kind == LINE {
+        n
+    } else if kind == ARRAY {
+        area_of(n)
+    } else if kind == MESSAGE {
+        message_area(n)
+    } else if iterations == 20 {
+        40 * n
+    } else {
+        2 * n
+    }
+}
+
+// The length of one of the slices: the right one, one less, or one more.
+fn length_of(entry: usize, slot: usize, digit: usize, n: usize, iterations: u64) -> usize
+    requires { ⌜ (entry < 7) × (slot < 3) × (0 < n) × (n ≤ 64) ⌝ }
+    ensures { λ r. ⌜ r ≤ 4097 ⌝ }
+{
+    let right = right_length((SLICES[entry] >> (3 * slot)) % 8, n, iterations);
+    if digit == 0 {
+        right
+    } else if digit == 1 {
+        right - 1
+    } else {
+        right + 1
+    }
+}
+
+// The first row, the last, the one after it, and a number that no array has.
+fn index_by(digit: usize, n: usize) -> usize
+    requires { ⌜ 0 < n ⌝ }
+{
+    if digit == 0 {
+        0
+    } else if digit == 1 {
+        n - 1
+    } else if digit == 2 {
+        n
+    } else {
+        0xFFFFFFFFFFFFFFFF
+    }
+}
+
+// The number of the first test that fails; 0 where none does.
+fn wanted_number(digits: [usize; 8], degree: u64, iterations: u64) -> u64 {
+    if (degree != 4) & (degree != 6) {
+        1
+    } else if (iterations == 0) | (20 < iterations) {
+        2
+    } else if (digits[2] != 0) | (digits[3] != 0) | (digits[4] != 0) | (1 < digits[5]) {
+        3
+    } else if (digits[6] != 0) | (digits[7] != 0) {
+        4
+    } else {
+        0
+    }
+}
+
+// Room for the longest slice.
+type Room = [u8; 4097];
+
+// The cells before a call: all are one cell, but the first or the last is spoilt where the digit says so.
+fn prepared(long: usize, cell: u8, digit: usize, spoilt: u8) -> Room
+    requires { ⌜ long ≤ 4097 ⌝ }
+{
+    let mut room = [cell; 4097];
+    if digit == 1 {
+        room[0] = spoilt;
+    } else if digit == 2 {
+        if 0 < long {
+            room[long - 1] = spoilt;
+        }
+    }
+    room
+}
+
+// The refusal number of a look-up, or 9 where the row that was found has not n cells, or a refused one has any.
+fn row_number(degree: u64, cells: &[u8], index: usize) -> u64 {
+    let refusal = array::rows::row_refusal(degree, cells, index);
+    let long = array::rows::row(degree, cells, index).len();
+    if long == if refusal == 0 { cells_of(degree) } else { 0 } {
+        refusal
+    } else {
+        9
+    }
+}
+
+fn line_number(answer: LineAnswer) -> u64 {
+    match answer {
+        LineAnswer::Refused(why) => number_of(why),
+        LineAnswer::Failed => 0,
+        LineAnswer::Found => 0,
+    }
+}
+
+fn messages_number(degree: u64, incoming: &[u8], channel: &[u8], out: &mut [u8]) -> u64 {
+    let answer = line::entry::line_messages(degree, incoming, channel, 0, out);
+    match answer {
+        MessagesAnswer::Refused(why) => number_of(why),
+        MessagesAnswer::Written(_) => 0,
+    }
+}
+
+fn decode_number(
+    degree: u64,
+    iterations: u64,
+    received: &[u8],
+    filling: &[u64],
+    cells: &mut [u8],
+) -> u64 {
+    let answer = array::entry::decode(degree, iterations, received, filling, cells);
+    match answer {
+        DecodeAnswer::Refused(why) => number_of(why),
+        DecodeAnswer::Decoded(_) => 0,
+    }
+}
+
+// The refusal number that an entry gives.
+fn given_number(
+    entry: usize,
+    degree: u64,
+    iterations: u64,
+    index: usize,
+    one: &mut [u8],
+    other: &[u8],
+    filling: &[u64],
+    third: &mut [u8],
+) -> u64 {
+    if entry == DECODE {
+        decode_number(degree, iterations, one, filling, third)
+    } else if entry == ENCODE {
+        array::encoding::encode(degree, one, third)
+    } else if entry == EXTRACT {
+        array::extraction::extract(degree, one, third)
+    } else if entry == ROW {
+        row_number(degree, one, index)
+    } else if entry == LINE_MESSAGES {
+        messages_number(degree, one, other, third)
+    } else if entry == BOUNDED_DISTANCE {
+        line_number(line::entry::bounded_distance(degree, one))
+    } else {
+        line_number(line::entry::decode_line(degree, one, 0))
+    }
+}
+
+fn same_rooms(one: &Room, other: &Room) -> bool {
+    same(one, other)
+}
+
+// What is seen of a call: its refusal number, and whether every cell of the rooms that its slices lie in is as before.
+struct CallResult {
+    number: u64,
+    kept: bool,
+}
+
+fn call(entry: usize, digits: [usize; 8], degree: u64, iterations: u64) -> CallResult
+    requires { ⌜ entry < 7 ⌝ }
+{
+    let n = cells_of(degree);
+    let one_long = length_of(entry, 0, digits[2], n, iterations);
+    let other_long = length_of(entry, 1, digits[3], n, iterations);
+    let third_long = length_of(entry, 2, digits[4], n, iterations);
+    let index = index_by(digits[5], n);
+    let before = prepared(one_long, CELL[entry], digits[6], SPOILT_CELL[entry]);
+    let other = prepared(other_long, 2, digits[7], 255);
+    let filling = [0u64; 4097];
+    let mut one = before;
+    let blank = [7u8; 4097];
+    let mut third = blank;
+    let number = given_number(
+        entry,
+        degree,
+        iterations,
+        index,
+        &mut one[..one_long],
+        &other[..other_long],
+        &filling[..other_long],
+        &mut third[..third_long],
+    );
+    let kept = same_rooms(&one, &before) & same_rooms(&third, &blank);
+    CallResult {
+        number: number,
+        kept: kept,
+    }
+}
+
+// One call, and what is to be given.
+fn test_call(entry: usize, t: usize, tally: &mut Totals)
+    requires { ⌜ entry < 7 ⌝ }
+{
+    let digits = digits_of(entry, t);
+    let degree = DEGREES[digits[0] % 4];
+    let iterations = ITERATIONS[digits[1] % 4];
+    let wanted = wanted_number(digits, degree, iterations);
+    let given = call(entry, digits, degree, iterations);
+    let agree = (wanted == given.number) & (given.kept | (wanted == 0));
+    note(tally, b"", b"", 0, agree, given.number);
+    tick_if(tally, OWN + (wanted % 8) as usize, true);
+}
+
+// All calls of an entry.
+fn test_refusals(entry: usize, many: usize, tally: &mut Totals)
+    requires { ⌜ entry < 7 ⌝ }
+{
+    for t in 0..many {
+        test_call(entry, t, tally);
+    }
+}
+
+// All calls of an entry, with the numbers of those that are to be refused.
+fn run_refusals(entry: usize, many: usize, name: &[u8])
+    requires { ⌜ entry < 7 ⌝ }
+{
+    let mut tally = [0u64; 32];
+    test_refusals(entry, many, &mut tally);
+    say(name, &tally, 0);
+    say(
+        b": # calls, # agree, # differ, sum #; # taken, # refused as 1, # as 2, # as 3, # as 4\n",
+        &tally,
+        0,
+    );
+}
+
+// ---- texts: good inputs of `sheet`, and inputs that are spoilt in each way
+
+// Kinds 0 to 12 are spoilt, 13 to 15 are good.
+const SPOILT: usize = 16;
+
+// Another first line: degree 5, a carriage return, the other degree, and the degree with a zero before it.
+fn other_first_line(kind: usize, n: usize, input: &mut Text) {
+    let digit = if n == 16 { 52 } else { 54 };
+    input[0] = if kind == 5 {
+        53
+    } else if kind == 7 {
+        if n == 16 { 54 } else { 52 }
+    } else if kind == 12 {
+        48
+    } else {
+        digit
+    };
+    input[1] = if kind == 6 {
+        13
+    } else if kind == 12 {
+        digit
+    } else {
+        10
+    };
+    input[2] = if kind == 12 { 10 } else { input[2] };
+}
+
+// Another byte in the lines: a newline, mostly in a cell's place; a cell in a newline's place; a character that is no cell, mostly in a
+// cell's place; and a space in a newline's place with it.
+fn other_byte(kind: usize, n: usize, p: usize, input: &mut Text)
+    requires { ⌜ (n ≤ 64) × (p < 272) ⌝ }
+{
+    input[2 + p] = if kind == 8 {
+        10
+    } else if (kind == 10) | (kind == 11) {
+        50
+    } else {
+        input[2 + p]
+    };
+    input[2 + n] = if kind == 9 {
+        48
+    } else if kind == 11 {
+        32
+    } else {
+        input[2 + n]
+    };
+}
+
+// Another length: empty, one byte, the first line alone, a byte less, a byte more.
+fn other_length(kind: usize, long: usize) -> usize
+    requires { ⌜ (2 ≤ long) × (long ≤ 4162) ⌝ }
+    ensures { λ r. ⌜ r ≤ 4163 ⌝ }
+{
+    if kind < 3 {
+        kind
+    } else if kind == 3 {
+        long - 1
+    } else if kind == 4 {
+        long + 1
+    } else {
+        long
+    }
+}
+
+fn note_text(tally: &mut Totals, own: &Text, given: &[u8; 4244], same_length: bool) {
+    note(tally, own, given, 4244, same_length, 0);
+    // the refusal number is the first character
+    tick_if(tally, OWN + (given[0] % 8) as usize, true);
+}
+
+// The first bytes of a room.
+fn test_text(n: usize, weights: &Weights, room: Text, long: usize, tally: &mut Totals)
+    requires { ⌜ (0 < n) × (n ≤ 64) × (long ≤ 4300) ⌝ }
+{
+    let input = &room[..long];
+    let mut own = [0u8; 4300];
+    let mut given = [0u8; 4244];
+    let own_long = sheet_text(n, weights, input, &mut own);
+    let given_long = text::sheet::sheet_text(input, &mut given);
+    note_text(tally, &own, &given, own_long == given_long);
+}
+
+// The text of one array, spoilt or not; the bytes past its end are newlines.
+fn test_sheet(n: usize, weights: &Weights, trial: usize, state: &mut u64, tally: &mut Totals)
+    requires { ⌜ (13 < n) × (n ≤ 64) ⌝ }
+{
+    let kind = trial % SPOILT;
+    let mut cells = [0u8; 4096];
+    let mut input = [10u8; 4300];
+    make_sent(n, state, &mut cells);
+    damage_array(n, trial % KINDS, state, &mut cells);
+    put_lines(n, &cells, 2, &mut input);
+    let p = below(state, 272);
+    other_byte(kind, n, p, &mut input);
+    other_first_line(kind, n, &mut input);
+    let long = other_length(kind, 2 + area_of(n) + n);
+    test_text(n, weights, input, long, tally);
+}
+
+fn test_sheets(n: usize, weights: &Weights, many: usize, tally: &mut Totals)
+    requires { ⌜ (13 < n) × (n ≤ 64) ⌝ }
+{
+    let mut state: u64 = 362436069;
+    for trial in 0..many {
+        test_sheet(n, weights, trial, &mut state, tally);
+    }
+}
+
+fn run_sheets(degree: u64, many: usize) {
+    let n = cells_of(degree);
+    let weights = weights_of(n);
+    let mut tally = [0u64; 32];
+    test_sheets(n, &weights, many, &mut tally);
+    say(
+        b"sheet: # texts, # agree, # differ, sum #; # taken, # refused as 1, # as 2, # as 3, # as 4\n",
+        &tally,
+        0,
+    );
+}
+
+fn main() {
+    run_refusals(DECODE, 1296, b"calls of decode");
+    run_refusals(ENCODE, 108, b"calls of encode");
+    run_refusals(EXTRACT, 108, b"calls of extract");
+    run_refusals(ROW, 144, b"calls of row");
+    run_refusals(BOUNDED_DISTANCE, 36, b"calls of bounded_distance");
+    run_refusals(DECODE_LINE, 36, b"calls of decode_line");
+    run_refusals(LINE_MESSAGES, 972, b"calls of line_messages");
+    run_sheets(4, 1530);
+    run_sheets(6, 255);
+}

@@ -1,0 +1,14 @@
+-- `codewords::times_alpha` meets its contract. Assumes nothing.
+use borrow.Author.Needs.{needs}
+use borrow.Author.Tests.{lt-ltb, le-ltb}
+use Rattle.second.proofs.codewords.times_alpha.Statement.{statement}
+use Rattle.second.proofs.codewords.times_alpha.Tie as tie
+
+pub times-alpha-spec : {M : Type 1} → statement M
+times-alpha-spec =
+    tie.close
+    (tie.spec
+    (λ c. search needs)
+    (λ c. search needs)
+    (λ c. (simp (lt-ltb _ _ (c .if1 .taken)), search needs))
+    (λ c. (simp (le-ltb _ _ (c .if1 .left)), search needs)))
