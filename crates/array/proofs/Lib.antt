@@ -5,6 +5,8 @@ pub mod ArrayEncoding
 mod PackedEncoding
 mod Loops
 pub mod Refusing
+pub mod RefusalExamples
+pub mod RowLook
 mod PackedLaws
 mod HalfLaws
 mod RunLaws

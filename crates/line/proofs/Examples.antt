@@ -25,7 +25,7 @@ put x [] l = l
 put x (i ∷ is) l = set (put x is l) i x
 
 -- 16 cells: ones and erasures at the cells listed, else 0
-abbrev line : (ones erased : List ℕ) → List ℕ
+abbrev pub line : (ones erased : List ℕ) → List ℕ
 line os es = put 1 os (put 2 es (replicate 16 0))
 
 abbrev pub zeros : List ℕ
@@ -43,13 +43,13 @@ pub data Row : Type 0 where
 abbrev P3 : List ℕ
 P3 = line (0 ∷ 4 ∷ 6 ∷ []) []
 
-abbrev P4 : List ℕ
+abbrev pub P4 : List ℕ
 P4 = line [] (0 ∷ 4 ∷ 6 ∷ 7 ∷ 8 ∷ [])
 
 abbrev pub P7 : List ℕ
 P7 = line (0 ∷ 4 ∷ []) (6 ∷ 7 ∷ [])
 
-abbrev P14 : List ℕ
+abbrev pub P14 : List ℕ
 P14 = line (4 ∷ 6 ∷ 7 ∷ 8 ∷ 15 ∷ []) (0 ∷ 1 ∷ 2 ∷ 3 ∷ 5 ∷ 9 ∷ [])
 
 -- P1 to P14, in their order

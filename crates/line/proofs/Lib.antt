@@ -17,6 +17,8 @@ mod EntryLaws
 pub mod ClauseLaws
 pub mod CountLaws
 pub mod Examples
+pub mod ClauseExamples
+pub mod CodeExamples
 mod Reaching
 mod Settling
 mod Starting
