@@ -16,7 +16,8 @@ use Rattle.line.specs.Cells.{IsWord}
 use Rattle.line.specs.Codeword.{Codeword}
 use Rattle.line.proofs.CellLaws.{Bits}
 use Rattle.array.specs.Arrays.{line, transpose}
-use Rattle.line.specs.Encoding.{checkSize, messageSize, encodeLine, messageOf}
+use Rattle.line.specs.Encoding.{checkSize, messageSize, encodeLine}
+use Rattle.line.specs.working.OneCell.{messageOf}
 use Rattle.array.specs.Encoding.{encodeLines, encodeArray, columnsFirst, extracted, Holds, ProductCodeword, OneArray}
 use Rattle.array.proofs.ArrayLaws.{Even, each-cell, line-at, length-line, line-small, length-transpose, transpose-at, transpose-cells, transpose-transpose, length-lines, line-lines, lines-are, array-ext}
 use Rattle.laws.specs.working.Sums.{xorTo}

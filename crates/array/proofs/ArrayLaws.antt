@@ -10,24 +10,12 @@ use native.Mathlib.Omega.{arith}
 use lib.ListN.{length, take, drop, getD, length-append, length-drop, List·getD-eq-default}
 use lib.Seq.{getD-take, getD-drop, length-take-le, ext-getD, drop-at, take-all, drop-append-le, take-append-le}
 use Rattle.line.specs.Cells.{cell, Cells}
-use Rattle.array.specs.Arrays.{line, lines, listFrom, transpose}
+use Rattle.array.specs.Arrays.{line, lines, transpose}
+use Rattle.line.proofs.LineLaw.{listTo-length, listTo-cell}
 
 -- what holds of each line
 abbrev pub Each : (List ℕ → Type 0) → ℕ → ℕ → List ℕ → Type 0
 Each P n k m = (i : ℕ) → i < k → P (line n m i)
-
--- ---- lists by a rule
-
-pub length-listFrom : (g : ℕ → ℕ) (a k : ℕ) → length (listFrom g a k) ≡ k
-unfolding listFrom
-length-listFrom g a zero = refl
-length-listFrom g a (suc k) = ap suc (length-listFrom g (suc a) k)
-
-pub getD-listFrom : (g : ℕ → ℕ) (a k i : ℕ) → i < k → getD (listFrom g a k) i 0 ≡ g (a + i)
-unfolding listFrom
-getD-listFrom g a zero i h = omega arith
-getD-listFrom g a (suc k) zero h = ap g (sym (add-zero a))
-getD-listFrom g a (suc k) (suc i) h = getD-listFrom g (suc a) k i (omega arith) ∙ ap g (omega arith)
 
 -- ---- a cell's place
 
@@ -77,14 +65,14 @@ lines-ext k n x y lx ly h =
 
 pub length-transpose : (r c : ℕ) (m : List ℕ) → length (transpose r c m) ≡ c * r
 unfolding transpose
-length-transpose r c m = length-listFrom _ 0 (c * r)
+length-transpose r c m = listTo-length _ (c * r)
 
 pub transpose-at : (r c : ℕ) (m : List ℕ) (a b : ℕ) → a < c → b < r → getD (transpose r c m) (a * r + b) 0 ≡ getD m (b * c + a) 0
 unfolding transpose
 transpose-at r c m a b p q =
     let e : (a * r + b) % r ≡ b = mul-add-mod-self-right a r b ∙ mod-eq-of-lt q in
     let d : (a * r + b) / r ≡ a = mul-add-div-right (omega arith) a b ∙ ap (λ (x : ℕ). a + x) (div-eq-of-lt q) ∙ add-zero a in
-    getD-listFrom (λ p. getD m (p % r * c + p / r) 0) 0 (c * r) (a * r + b) (cell-room c r a b p q) ∙ rw (zero-add, e, d)
+    listTo-cell (λ p. getD m (p % r * c + p / r) 0) (c * r) (a * r + b) (cell-room c r a b p q) ∙ rw (e, d)
 
 pub transpose-transpose : (r c : ℕ) (m : List ℕ) → length m ≡ r * c → transpose c r (transpose r c m) ≡ m
 transpose-transpose r c m l =

@@ -22,7 +22,8 @@ use Rattle.line.proofs.Bounds.{square-le, size-le}
 use Rattle.line.proofs.Refusing.{some-none, fits, cells-small, known-bits, known-size, bits-named, none-applies, tested-known}
 use Rattle.array.specs.Arrays.{line}
 use Rattle.array.specs.working.Steps.{IsArray}
-use Rattle.array.specs.Refusals.{messageCells, codingTests, rowTests, decodeTests}
+use Rattle.array.specs.Refusals.{codingTests, rowTests, decodeTests}
+use Rattle.array.specs.working.Sizes.{messageCells}
 use Rattle.array.proofs.ArrayLaws.{line-room}
 use Rattle.array.proofs.WrittenLines.{part-at}
 

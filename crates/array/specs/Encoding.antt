@@ -3,12 +3,12 @@
 use mathlib.Core.Path.{_≡_}
 use mathlib.Core.List.{List}
 use Prim.Native.Nat.{ℕ, _+_, _*_, _<_}
-use lib.ListN.{length, getD}
+use lib.ListN.{length, take, drop, getD}
 use Rattle.degree.specs.declared.Degree.{Degree}
 use Rattle.degree.specs.Degree.{size}
 use Rattle.line.specs.Cells.{IsWord}
 use Rattle.line.specs.Codeword.{Codeword}
-use Rattle.line.specs.Encoding.{checkSize, messageSize, encodeLine, messageOf}
+use Rattle.line.specs.Encoding.{checkSize, messageSize, encodeLine}
 use Rattle.array.specs.Arrays.{line, lines, transpose, column}
 
 module _ (d : Degree) where
@@ -28,7 +28,7 @@ module _ (d : Degree) where
 
   -- taking the message out copies those cells as they are, unsure ones too
   unfoldable pub extracted : List ℕ → List ℕ
-  extracted a = lines (λ i. messageOf d (line (size d) a (checkSize d + i))) (messageSize d)
+  extracted a = lines (λ i. take (messageSize d) (drop (checkSize d) (line (size d) a (checkSize d + i)))) (messageSize d)
 
 -- "a k by k message fills rows and columns 2v to n - 2 of the array": cell (i, j) of the message is cell (2v + i, 2v + j)
 abbrev pub Holds : Degree → (array message : List ℕ) → Type 0

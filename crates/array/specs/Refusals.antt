@@ -8,15 +8,11 @@ use lib.Dec.{eqb, ltb, leb}
 use lib.ListN.{length}
 use Rattle.line.specs.Refusals.{unnamed, misfit, some, atMost}
 
--- k: the message cells of a line
-abbrev pub messageCells : (degree : ℕ) → ℕ
-messageCells degree = 2 ^ degree - 1 - 2 * degree
-
 -- encode and extract: a message of k by k cells and an array of n by n cells; one of them is read, and none of its cells is above the
 -- bound, the other is only written
 unfoldable pub codingTests : (bound degree : ℕ) (message cells read : List ℕ) → List (ℕ × Bool)
 codingTests bound degree message cells read =
-    let n = 2 ^ degree in let k = messageCells degree in
+    let n = 2 ^ degree in let k = 2 ^ degree - 1 - 2 * degree in
     (1, unnamed degree)
     ∷ (3, some (misfit (length message) (k * k) ∷ misfit (length cells) (n * n) ∷ []))
     ∷ (4, not (atMost bound read)) ∷ []

@@ -1,4 +1,5 @@
 pub mod EncodedRows
 pub mod PackedRows
 pub mod Runs
+pub mod Sizes
 pub mod Steps

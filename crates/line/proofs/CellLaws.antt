@@ -12,7 +12,8 @@ use lib.ListN.{length, set, take, drop, length-set}
 use borrow.Author.Tests.{eqb-true, eqb-false, eq-eqb, ne-eqb}
 use Rattle.line.specs.declared.side.Side.{Side}
 use Rattle.line.specs.declared.side.Side.the-variants.{One, Two}
-use Rattle.line.specs.Cells.{cell, Cells, IsWord, isErased, bit, erasures, differs, distance, fillingBit, filledCell, filled, flip}
+use Rattle.line.specs.Cells.{cell, Cells, IsWord, isErased, bit, erasures, distance, fillingBit, filled, flip}
+use Rattle.line.specs.working.OneCell.{differs, filledCell}
 use Rattle.line.specs.working.Packed.{IsLine}
 
 -- all cells are 0 or 1

@@ -19,7 +19,8 @@ use Rattle.line.specs.declared.side.Side.{Side}
 use Rattle.line.specs.declared.side.Side.the-variants.{One, Two}
 use Rattle.line.specs.declared.clause.Clause.{Clause}
 use Rattle.line.specs.declared.clause.Clause.the-variants.{Equal, Crowded, Neither, Agreeing, Unchanged, Open, Afresh, Channel}
-use Rattle.line.specs.Cells.{cell, IsWord, isErased, bit, erasures, few, distance, fillingBit, filledCell, filled, designedDistance, radius}
+use Rattle.line.specs.Cells.{cell, IsWord, isErased, bit, erasures, few, distance, fillingBit, filled, designedDistance, radius}
+use Rattle.line.specs.working.OneCell.{filledCell}
 use Rattle.line.specs.working.Packed.{IsLine}
 use Rattle.line.specs.Bounded.{Answer, Found, Failed, orBack, bounded}
 use Rattle.line.specs.Decoding.{choice, replaced, decode, decoded, message}

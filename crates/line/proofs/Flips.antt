@@ -15,7 +15,8 @@ use Rattle.field.specs.declared.locate.Positions.the-variants.{Zero, One, Two, 
 use Rattle.field.specs.working.Positions.{total}
 use Rattle.laws.specs.Digits.{sumOver, ones}
 use Rattle.field.specs.working.Fitting.{Within}
-use Rattle.line.specs.Cells.{IsWord, differs, distance, flip}
+use Rattle.line.specs.Cells.{IsWord, distance, flip}
+use Rattle.line.specs.working.OneCell.{differs}
 use Rattle.line.proofs.CellLaws.{Bits, differs-equal, differs-other, flip-word, distance-self, distance-flip}
 use Rattle.line.proofs.SumLaws.{sum-flip, ones-flip, take-flip}
 

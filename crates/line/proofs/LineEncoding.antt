@@ -30,7 +30,8 @@ use Rattle.field.proofs.Powers.{power-lt}
 use Rattle.line.specs.Codeword.{Codeword}
 use Rattle.line.proofs.CellLaws.{Bits, take-bits}
 use Rattle.line.proofs.Distances.{word-parity}
-use Rattle.line.specs.Encoding.{checkSize, messageSize, checkTable, sums, checksFor, checkCells, encodeLine, messageOf}
+use Rattle.line.specs.Encoding.{checkSize, messageSize, checkTable, sums, checksFor, checkCells, encodeLine}
+use Rattle.line.specs.working.OneCell.{messageOf}
 use Rattle.laws.proofs.DigitSums.{sum-lt, sum-ones, sum-append, digits-length}
 use Rattle.laws.proofs.Linear.{one, sum-step, sum-map, then-adds, digit-adds, sumDigits, digits-adds, digits-bits, digits-at, digits-pack, pack-lt, digits-inverse, sum-beside, sum-both, unit, unit-lt, sum-unit}
 

@@ -15,7 +15,8 @@ use borrow.Author.Tests.{ltb-true, ltb-false, lt-ltb}
 use Rattle.degree.specs.declared.Degree.{Degree}
 use Rattle.degree.specs.Degree.{size}
 use Rattle.line.specs.declared.side.Side.the-variants.{One, Two}
-use Rattle.line.specs.Cells.{cell, Cells, IsWord, isErased, bit, erasures, few, differs, distance, filledCell, filled, designedDistance}
+use Rattle.line.specs.Cells.{cell, Cells, IsWord, isErased, bit, erasures, few, distance, filled, designedDistance}
+use Rattle.line.specs.working.OneCell.{differs, filledCell}
 use Rattle.line.specs.working.Packed.{IsLine}
 use Rattle.line.specs.Codeword.{Codeword}
 use Rattle.line.specs.Bounded.{Answer, Found, Failed, orBack, bounded}

@@ -15,7 +15,8 @@ use Rattle.laws.specs.working.Bits.{xorb}
 use Rattle.laws.proofs.Xor.{bit-ind}
 use Rattle.laws.proofs.Bits.{half-bit, low-bit, bit-lt, split-low, and-bits, or-bits, xor-bits, not-bits, ones-bits, shift-more}
 use Rattle.line.specs.declared.side.Side.the-variants.{One, Two}
-use Rattle.line.specs.Cells.{cell, isErased, erasures, differs, distance, filledCell, filled}
+use Rattle.line.specs.Cells.{cell, isErased, erasures, distance, filled}
+use Rattle.line.specs.working.OneCell.{differs, filledCell}
 use Rattle.line.specs.working.Packed.{isOne, packBy}
 
 -- ---- the word that packs a list

@@ -21,7 +21,8 @@ use Rattle.line.specs.declared.bounded.Tried.{Tried}
 use Rattle.line.specs.declared.clause.Trial.{Trial}
 use Rattle.line.specs.declared.clause.Seen.{Seen}
 use Rattle.line.specs.working.Packed.{IsLine, PacksWord}
-use Rattle.line.specs.Cells.{cell, isErased, erasures, few, differs, distance, filled, filledCell, fillingBit, designedDistance, radius}
+use Rattle.line.specs.Cells.{cell, isErased, erasures, few, distance, filled, fillingBit, designedDistance, radius}
+use Rattle.line.specs.working.OneCell.{differs, filledCell}
 use Rattle.line.specs.Bounded.{Answer, Found, Failed, orBack, bounded}
 use Rattle.line.specs.Decoding.{replaced}
 use Rattle.line.specs.Clauses.{near, reach, same, agrees, answerCell, firstFit, byReach, clause}

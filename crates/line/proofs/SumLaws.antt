@@ -12,7 +12,8 @@ use lib.ListN.{length, set, take}
 use lib.Seq.{getD-take, take-set-lt, take-set-le}
 use Rattle.laws.specs.Digits.{sumOver, ones}
 use Rattle.laws.proofs.DigitSums.{sum-flip as flip-sum}
-use Rattle.line.specs.Cells.{cell, differs, distance, flip}
+use Rattle.line.specs.Cells.{cell, distance, flip}
+use Rattle.line.specs.working.OneCell.{differs}
 use Rattle.line.proofs.CellLaws.{Bits}
 
 -- a flip of cell i adds f i to the sum

@@ -22,19 +22,16 @@ abbrev pub orElse : Answer → Answer → Answer
 orElse (Found c) b = Found c
 orElse Failed b = b
 
--- the first that is found, the lowest place first
-abbrev pub firstFound : (ℕ → Answer) → ℕ → Answer
-firstFound = firstOf orElse Failed
-
 module _ (passes : List ℕ → Bool) where
   unfoldable pub itself : List ℕ → Answer
   itself w = cond (passes w) (Found w) Failed
 
+  -- the first that is found, the lowest place first
   unfoldable pub oneFlipped : List ℕ → Answer
-  oneFlipped w = firstFound (λ i. itself (flip i w)) (length w)
+  oneFlipped w = firstOf orElse Failed (λ i. itself (flip i w)) (length w)
 
   unfoldable pub twoFlipped : List ℕ → Answer
-  twoFlipped w = firstFound (λ j. firstFound (λ i. itself (flip i (flip j w))) j) (length w)
+  twoFlipped w = firstOf orElse Failed (λ j. firstOf orElse Failed (λ i. itself (flip i (flip j w))) j) (length w)
 
   unfoldable pub within2 : List ℕ → Answer
   within2 w = orElse (itself w) (orElse (oneFlipped w) (twoFlipped w))

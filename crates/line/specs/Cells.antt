@@ -43,28 +43,22 @@ radius = 2
 abbrev pub few : List ℕ → Bool
 few y = ltb (erasures y) designedDistance
 
--- 1 for a known cell that is not the word's
-abbrev pub differs : ℕ → ℕ → ℕ
-differs c w = cond (isErased c) 0 (cond (eqb c w) 0 1)
-
--- the differences of a line from a word, at the line's known cells; for two words, their distance
+-- the differences of a line from a word, at the line's known cells: 1 for a known cell that is not the word's. For two words, their
+-- distance.
 unfoldable pub distance : List ℕ → List ℕ → ℕ
 distance [] ws = 0
 distance (c ∷ cs) [] = 0
-distance (c ∷ cs) (w ∷ ws) = differs c w + distance cs ws
+distance (c ∷ cs) (w ∷ ws) = cond (isErased c) 0 (cond (eqb c w) 0 1) + distance cs ws
 
 -- the bit that a filling word has for cell 0: word one takes it as it is, word two its opposite
 abbrev pub fillingBit : Side → ℕ → ℕ
 fillingBit One f = f % 2
 fillingBit Two f = 1 - f % 2
 
-abbrev pub filledCell : ℕ → ℕ → ℕ
-filledCell c b = cond (isErased c) b c
-
 -- word one and word two: each unsure cell i filled by bit i of the filling word
 unfoldable pub filled : Side → List ℕ → ℕ → List ℕ
 filled s [] f = []
-filled s (c ∷ cs) f = filledCell c (fillingBit s f) ∷ filled s cs (f / 2)
+filled s (c ∷ cs) f = cond (isErased c) (fillingBit s f) c ∷ filled s cs (f / 2)
 
 -- a word with cell i flipped
 unfoldable pub flip : ℕ → List ℕ → List ℕ

@@ -1,7 +1,7 @@
 -- Encoding a line. Document 01, "The code": message cells of a line are 2v to n - 2; all else is check.
 use mathlib.Core.List.{List, [], _∷_, _++_}
 use Prim.Native.Nat.{ℕ, _+_, _-_, _*_, _%_}
-use lib.ListN.{take, drop, getD}
+use lib.ListN.{getD}
 use Rattle.laws.specs.Digits.{sumOver, ones, digits}
 use Rattle.degree.specs.declared.Degree.{Degree}
 use Rattle.degree.specs.declared.Degree.the-variants.{Four, Six}
@@ -38,7 +38,3 @@ module _ (d : Degree) where
   -- a line: its check cells, the message, and the parity cell, which makes the number of ones even
   unfoldable pub encodeLine : List ℕ → List ℕ
   encodeLine m = (checkCells m ++ m) ++ (ones (checkCells m ++ m) % 2 ∷ [])
-
-  -- the message cells of a line
-  abbrev pub messageOf : List ℕ → List ℕ
-  messageOf w = take (messageSize d) (drop (checkSize d) w)

@@ -1,5 +1,6 @@
 pub mod Calls
 pub mod Fillings
+pub mod OneCell
 pub mod Packed
 pub mod Rows
 pub mod SentRows

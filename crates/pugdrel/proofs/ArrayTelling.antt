@@ -23,8 +23,10 @@ use Rattle.array.specs.Refusals.{rowTests, decodeTests}
 use Rattle.array.specs.Entries.{DecodeDone, decodeNumbers, rowRefusal, rowPart}
 use Rattle.array.proofs.ArrayLaws.{length-line}
 use Rattle.array.proofs.Refusing.{row-taken, row-room}
-use Rattle.pugdrel.specs.Reports.{fits, told}
-use Rattle.pugdrel.specs.ArrayCalls.{reportNumbers, DecodeTold, rowCall, RowTold}
+use Rattle.pugdrel.specs.Reports.{told}
+use Rattle.pugdrel.specs.working.Numbers.{fits}
+use Rattle.pugdrel.specs.ArrayCalls.{DecodeTold, rowCall, RowTold}
+use Rattle.pugdrel.specs.working.Numbers.{reportNumbers}
 use Rattle.pugdrel.proofs.Handing.{no-array, Alike, same-refusal, same-given, taken-fits}
 
 -- ---- decode

@@ -16,7 +16,8 @@ use Rattle.line.specs.Clauses.{count}
 use Rattle.line.specs.Refusals.{refusal, given, misfit, lineTests, messagesTests}
 use Rattle.line.specs.Entries.{isFound, lineNumbers, Answered, messagesNumbers, MessagesDone}
 use Rattle.line.proofs.Refusing.{some-none, none-applies, given-none}
-use Rattle.pugdrel.specs.Reports.{fits, told}
+use Rattle.pugdrel.specs.Reports.{told}
+use Rattle.pugdrel.specs.working.Numbers.{fits}
 use Rattle.pugdrel.specs.LineCalls.{LineTold, MessagesTold}
 use Rattle.pugdrel.proofs.Handing.{no-line, Alike, same-refusal, same-given, lent-part}
 

@@ -12,8 +12,9 @@ use Rattle.line.specs.Refusals.{refusal}
 use Rattle.line.proofs.Refusing.{unless-taken, unless-refused}
 use Rattle.text.specs.Text.{printed}
 use Rattle.text.specs.Writing.{Wrote}
-use Rattle.pugdrel.specs.Reports.{fits, told}
-use Rattle.pugdrel.specs.SheetCall.{sheetCall, withText, SheetTold}
+use Rattle.pugdrel.specs.Reports.{told}
+use Rattle.pugdrel.specs.working.Numbers.{fits}
+use Rattle.pugdrel.specs.SheetCall.{sheetCall, SheetTold}
 
 pub output-room : (output report : List ℕ) → (fits 4244 output && fits 1 report) ≡ true → 4244 ≤ length output
 output-room output report e = omega (arith, eqb-true (length output) 4244 (and-true (fits 4244 output) (fits 1 report) e .0))
@@ -36,7 +37,7 @@ module _ (input before old : List ℕ) where
       let zero : refusal (sheetCall before old) ≡ 0 = sheet-number ∙ rw e in
       record {
         refusal = sym zero;
-        bytes = wrote .bytes ∙ ap (λ (k : ℕ). printed input ++ drop k before) long ∙ sym (unless-taken (sheetCall before old) (withText (printed input) before) before zero);
+        bytes = wrote .bytes ∙ ap (λ (k : ℕ). printed input ++ drop k before) long ∙ sym (unless-taken (sheetCall before old) (printed input ++ drop (length (printed input)) before) before zero);
         report = t ∙ ap (λ (k : ℕ). told (k ∷ []) old) (long ∙ sym (unless-taken (sheetCall before old) (length (printed input)) 0 zero));
       }
 
@@ -45,6 +46,6 @@ module _ (input before old : List ℕ) where
       let three : refusal (sheetCall before old) ≡ 3 = sheet-number ∙ rw e in
       record {
         refusal = sym three;
-        bytes = sym (unless-refused (sheetCall before old) (withText (printed input) before) before (λ z. omega arith));
+        bytes = sym (unless-refused (sheetCall before old) (printed input ++ drop (length (printed input)) before) before (λ z. omega arith));
         report = t ∙ ap (λ (k : ℕ). told (k ∷ []) old) (sym (unless-refused (sheetCall before old) (length (printed input)) 0 (λ z. omega arith)));
       }

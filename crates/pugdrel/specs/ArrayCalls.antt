@@ -15,16 +15,13 @@ use Rattle.pugdrel.specs.Reports.{told}
 
 -- ---- decode, with l iterations, received array r, filling words w
 
--- what is reported of an answer: the count, the unsure cells, closed
-abbrev pub reportNumbers : DecodeAnswer → List ℕ
-reportNumbers a = decodeNumbers a .1 ∷ decodeNumbers a .2 ∷ bit (decodeNumbers a .3) ∷ []
-
--- the call answers as the entry does, with a report of 3 numbers among the lengths, and returns the refusal
+-- the call answers as the entry does, with a report of 3 numbers among the lengths, returns the refusal, and reports the count, the
+-- unsure cells and closed
 pub record DecodeTold (degree l : ℕ) (r w before after old new : List ℕ) (number : ℕ) : Type 0 where
   pub answer : DecodeAnswer
   pub done : DecodeDone degree l r w before (misfit (length old) 3 ∷ []) after answer
   pub refusal : number ≡ decodeNumbers answer .0
-  pub report : new ≡ told (reportNumbers answer) old
+  pub report : new ≡ told (decodeNumbers answer .1 ∷ decodeNumbers answer .2 ∷ bit (decodeNumbers answer .3) ∷ []) old
 
 -- ---- the look-up of a row
 

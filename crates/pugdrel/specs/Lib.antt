@@ -3,3 +3,4 @@ pub mod ArrayCalls
 pub mod LineCalls
 pub mod SheetCall
 pub mod Version
+pub mod working

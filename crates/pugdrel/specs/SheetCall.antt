@@ -12,12 +12,8 @@ use Rattle.pugdrel.specs.Reports.{told}
 unfoldable pub sheetCall : (output report : List ℕ) → List (ℕ × Bool)
 sheetCall output report = (3, some (misfit (length output) 4244 ∷ misfit (length report) 1 ∷ [])) ∷ []
 
--- the text, and after it what stood there
-abbrev pub withText : (text old : List ℕ) → List ℕ
-withText text old = text ++ drop (length text) old
-
--- what is printed for the input, and its length; a refused call writes no byte
+-- what is printed for the input, after it what stood there, and its length; a refused call writes no byte
 pub record SheetTold (input before after old new : List ℕ) (number : ℕ) : Type 0 where
   pub refusal : number ≡ refusal (sheetCall before old)
-  pub bytes : after ≡ unlessRefused (sheetCall before old) (withText (printed input) before) before
+  pub bytes : after ≡ unlessRefused (sheetCall before old) (printed input ++ drop (length (printed input)) before) before
   pub report : new ≡ told (unlessRefused (sheetCall before old) (length (printed input)) 0 ∷ []) old

@@ -11,7 +11,8 @@ use array::rows::row_refusal;
 use line::refusals::number_of;
 ghost use mathlib.Core.Path.{_≡_};
 ghost use Rattle.array.specs.Entries.{Encoded, Extracted, decodeNumbers};
-ghost use Rattle.pugdrel.specs.ArrayCalls.{reportNumbers, DecodeTold, RowTold};
+ghost use Rattle.pugdrel.specs.ArrayCalls.{DecodeTold, RowTold};
+ghost use Rattle.pugdrel.specs.working.Numbers.{reportNumbers};
 
 // ---- an answer in document 01's numbers
 

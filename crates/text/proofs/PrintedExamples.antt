@@ -22,14 +22,16 @@ use Rattle.line.specs.Clauses.{reach, same, agrees, byReach, clause, count}
 use Rattle.line.specs.Refusals.{refusal, atMost}
 use Rattle.line.proofs.Distances.{is-codeword}
 use Rattle.line.proofs.Refusing.{at-most-small}
-use Rattle.array.specs.Arrays.{line, lines, listFrom, transpose}
+use Rattle.line.specs.Decoding.{listTo}
+use Rattle.array.specs.Arrays.{line, lines, transpose}
 use Rattle.array.specs.Halves.{rowHalf, rowCount, columnCount}
 use Rattle.array.specs.Plain.{plain, plainCount, closed, RowCondition}
 use Rattle.array.specs.Encoding.{ProductCodeword}
 use Rattle.array.specs.working.Steps.{IsArray}
 use Rattle.array.proofs.ArrayLaws.{line-cells}
 use Rattle.array.proofs.Theorem.{sent-closed, sent-known, first-half, array-theorem}
-use Rattle.text.specs.Text.{firstLine, shaped, known, cellsOf, zeros, sheetTests, decimalDigits, decimal, numberText, numbersText, lineText, arrayText, reportText, refusalText, decodedText, printed}
+use Rattle.text.specs.Text.{firstLine, shaped, known, cellsOf, sheetTests, decimalDigits, decimal, numberText, numbersText, lineText, arrayText, reportText, refusalText, decodedText, printed}
+use Rattle.text.specs.working.Characters.{zeros}
 use Rattle.text.proofs.SheetLaws.{printed-taken}
 use Rattle.text.proofs.ReadBack.{read-back}
 
@@ -79,7 +81,7 @@ unfolding atMost
 sent-word = record { long = refl; small = at-most-small 1 sent refl }
 
 turned : transpose 16 16 sent ≡ sent
-unfolding transpose listFrom
+unfolding transpose listTo
 turned = refl
 
 sent-rows : (i : ℕ) → i < 16 → Codeword Four (line 16 sent i)
@@ -105,7 +107,7 @@ unfolding rowCount sumTo count clause erasures
 rows-counted = refl
 
 columns-counted : columnCount Four sent received (drop 16 (zeros Four)) ≡ 32
-unfolding columnCount rowCount sumTo count clause erasures byReach reach same agrees filled distance bounded within2 itself isCodeword sumOver ones transpose listFrom
+unfolding columnCount rowCount sumTo count clause erasures byReach reach same agrees filled distance bounded within2 itself isCodeword sumOver ones transpose listTo
 columns-counted = refl
 
 all-counted : plainCount Four 1 received received (zeros Four) ≡ 64

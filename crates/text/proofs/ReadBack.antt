@@ -16,7 +16,8 @@ use Rattle.line.specs.Cells.{cell}
 use Rattle.line.specs.working.Packed.{IsLine}
 use Rattle.array.specs.Arrays.{line}
 use Rattle.array.proofs.ArrayLaws.{line-at, line-small, length-line, length-lines, line-lines, lines-are}
-use Rattle.text.specs.Text.{byte, placed, shaped, isKnown, known, cellOf, cellsOf, charOf, lineText, arrayText}
+use Rattle.text.specs.Text.{byte, shaped, known, cellOf, cellsOf, charOf, lineText, arrayText}
+use Rattle.text.specs.working.Characters.{placed, isKnown}
 use Rattle.text.proofs.WritingLaws.{lines-even}
 
 -- ---- a cell

@@ -33,7 +33,8 @@ use Rattle.array.specs.Plain.{plain, plainCount, closed}
 use Rattle.array.specs.working.Steps.{IsArray}
 use Rattle.array.specs.working.Runs.{DecodingDone}
 use Rattle.array.proofs.ArrayLaws.{length-lines, line-lines, line-at, each-cell}
-use Rattle.text.specs.Text.{byte, firstLine, placed, shaped, known, cellOf, cellsOf, zeros, sheetTests, reportText, refusalText, decodedText, printed}
+use Rattle.text.specs.Text.{byte, firstLine, shaped, known, cellOf, cellsOf, sheetTests, reportText, refusalText, decodedText, printed}
+use Rattle.text.specs.working.Characters.{placed, zeros}
 use Rattle.text.proofs.WritingLaws.{cells-even}
 
 -- ---- sizes

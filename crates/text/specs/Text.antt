@@ -25,33 +25,21 @@ byte t p = getD t p 0
 abbrev pub firstLine : List ℕ → ℕ
 firstLine t = cond (eqb (byte t 1) 10) (byte t 0 - 48) 0
 
--- what follows the first line
-abbrev pub afterFirst : List ℕ → List ℕ
-afterFirst t = drop 2 t
-
--- byte p is a newline exactly if it is the last of a line of n cells and a newline
-abbrev pub placed : ℕ → ℕ → ℕ → Bool
-placed n p b = cond (eqb (p % (n + 1)) n) (eqb b 10) (not (eqb b 10))
-
--- the byte total and the newline places of n lines, each of n cells and a newline
+-- the byte total and the newline places of n lines, each of n cells and a newline: byte p is a newline exactly if it is the last of its line
 unfoldable pub shaped : ℕ → List ℕ → Bool
-shaped n t = eqb (length t) (n * (n + 1)) && every (λ p. placed n p (byte t p)) (length t)
+shaped n t = eqb (length t) (n * (n + 1)) && every (λ p. cond (eqb (p % (n + 1)) n) (eqb (byte t p) 10) (not (eqb (byte t p) 10))) (length t)
 
--- a newline, or the character of a cell: 48 is 0, 49 is 1, 63 is ?
-abbrev pub isKnown : ℕ → Bool
-isKnown b = eqb b 10 || (eqb b 48 || (eqb b 49 || eqb b 63))
-
--- no other character
+-- no other character than a newline and those of cells: 48 is 0, 49 is 1, 63 is ?
 unfoldable pub known : List ℕ → Bool
-known t = every (λ p. isKnown (byte t p)) (length t)
+known t = every (λ p. eqb (byte t p) 10 || (eqb (byte t p) 48 || (eqb (byte t p) 49 || eqb (byte t p) 63))) (length t)
 
--- the tests of what is read: "A first line other than just 4 or 6 and a newline is 1. Wrong byte totals or newline places are 3;
+-- the tests of what is read, the lines being what follows the first 2 bytes: "A first line other than just 4 or 6 and a newline is 1. Wrong byte totals or newline places are 3;
 -- another character is 4."
 unfoldable pub sheetTests : (input : List ℕ) → List (ℕ × Bool)
 sheetTests input =
     (1, unnamed (firstLine input))
-    ∷ (3, not (shaped (2 ^ firstLine input) (afterFirst input)))
-    ∷ (4, not (known (afterFirst input))) ∷ []
+    ∷ (3, not (shaped (2 ^ firstLine input) (drop 2 input)))
+    ∷ (4, not (known (drop 2 input))) ∷ []
 
 -- the cell that a character stands for: ? is 2, unsure
 abbrev pub cellOf : ℕ → ℕ
@@ -100,13 +88,11 @@ unfoldable pub refusalText : ℕ → List ℕ
 refusalText number = numbersText number 0 0 0
 
 -- "It runs one iteration with zero filling": 2 n words
-abbrev pub zeros : Degree → List ℕ
-zeros d = replicate (2 * size d) 0
-
 unfoldable pub decodedText : Degree → List ℕ → List ℕ
 decodedText d r =
-    reportText (size d) (plain d 1 r r (zeros d)) (plainCount d 1 r r (zeros d)) (erasures (plain d 1 r r (zeros d))) (closed d (plain d 1 r r (zeros d)))
+    let w : List ℕ = replicate (2 * size d) 0 in let m = plain d 1 r r w in
+    reportText (size d) m (plainCount d 1 r r w) (erasures m) (closed d m)
 
 -- what `sheet` prints for what it reads
 unfoldable pub printed : List ℕ → List ℕ
-printed t = given (firstLine t) (sheetTests t) (λ d. decodedText d (cellsOf (size d) (afterFirst t))) (refusalText (refusal (sheetTests t)))
+printed t = given (firstLine t) (sheetTests t) (λ d. decodedText d (cellsOf (size d) (drop 2 t))) (refusalText (refusal (sheetTests t)))

@@ -5,7 +5,8 @@ ghost use mathlib.Core.Path.{_≡_};
 ghost use Prim.Native.Nat.{_+_, _-_, _*_, _≤_};
 ghost use lib.ListN.{length};
 ghost use Rattle.laws.specs.Tests.{every};
-ghost use Rattle.text.specs.Text.{byte, firstLine, placed, shaped, known, cellsOf};
+ghost use Rattle.text.specs.Text.{byte, firstLine, shaped, known, cellsOf};
+ghost use Rattle.text.specs.working.Characters.{placed};
 
 // The number of a digit; 0 for a character below the digits.
 fn digit_of(character: u8) -> u64

@@ -10,7 +10,7 @@ ghost use lib.ListN.{length};
 ghost use Rattle.degree.specs.Degree.{bits, size};
 ghost use Rattle.array.specs.working.Steps.{IsArray};
 ghost use Rattle.array.specs.working.Runs.{DecodingDone};
-ghost use Rattle.text.specs.Text.{zeros};
+ghost use Rattle.text.specs.working.Characters.{zeros};
 
 fn degree_number(d: Degree) -> u64
     ensures { λ r. ⌜ r ≡ bits d ⌝ }

@@ -3,7 +3,7 @@
 use mathlib.Core.Path.{sym, ap, _∙_}
 use mathlib.Core.List.{[], _∷_}
 use Prim.Native.Nat.{ℕ}
-use Rattle.pugdrel.specs.ArrayCalls.{reportNumbers}
+use Rattle.pugdrel.specs.working.Numbers.{reportNumbers}
 use borrow.Author.Needs.{needs}
 use Rattle.pugdrel.proofs.arrays.decode_numbers.Statement.{statement}
 use Rattle.pugdrel.proofs.arrays.decode_numbers.Tie as tie

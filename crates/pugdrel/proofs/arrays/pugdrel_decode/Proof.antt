@@ -4,7 +4,8 @@
 use mathlib.Core.Path.{_∙_, ap}
 use mathlib.Core.List.{List}
 use Prim.Native.Nat.{ℕ}
-use Rattle.pugdrel.specs.Reports.{fits, told}
+use Rattle.pugdrel.specs.Reports.{told}
+use Rattle.pugdrel.specs.working.Numbers.{fits}
 use Rattle.pugdrel.proofs.Handing.{lent-length, lent-part}
 use Rattle.pugdrel.proofs.ArrayTelling.{decode-told}
 use borrow.Author.Needs.{needs}

@@ -2,7 +2,7 @@
 -- Assumes nothing.
 use native.Mathlib.Omega.{arith}
 use lib.ListN.{take}
-use Rattle.pugdrel.specs.Reports.{fits}
+use Rattle.pugdrel.specs.working.Numbers.{fits}
 use Rattle.pugdrel.proofs.Handing.{lent-length, lent-part}
 use Rattle.pugdrel.proofs.ArrayTelling.{row-start, row-told}
 use borrow.Author.Needs.{needs}

@@ -1,7 +1,7 @@
 -- `lines::pugdrel_bounded_distance` meets its contract: that of the entry below, for the part that is handed on.
 -- Assumes nothing.
 use Rattle.line.specs.Bounded.{bounded}
-use Rattle.pugdrel.specs.Reports.{fits}
+use Rattle.pugdrel.specs.working.Numbers.{fits}
 use Rattle.pugdrel.proofs.Handing.{lent-le, lent-length}
 use Rattle.pugdrel.proofs.LineTelling.{line-told}
 use borrow.Author.Needs.{needs}

@@ -2,7 +2,7 @@
 -- Assumes nothing.
 use Rattle.line.specs.Bounded.{bounded}
 use Rattle.line.specs.Decoding.{decode}
-use Rattle.pugdrel.specs.Reports.{fits}
+use Rattle.pugdrel.specs.working.Numbers.{fits}
 use Rattle.pugdrel.proofs.Handing.{lent-le, lent-length}
 use Rattle.pugdrel.proofs.LineTelling.{line-told}
 use borrow.Author.Needs.{needs}

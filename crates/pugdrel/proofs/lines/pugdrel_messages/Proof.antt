@@ -3,7 +3,8 @@
 use mathlib.Core.Path.{ap, _∙_}
 use mathlib.Core.List.{[], _∷_}
 use Prim.Native.Nat.{ℕ}
-use Rattle.pugdrel.specs.Reports.{fits, told}
+use Rattle.pugdrel.specs.Reports.{told}
+use Rattle.pugdrel.specs.working.Numbers.{fits}
 use Rattle.pugdrel.proofs.Handing.{lent-length, lent-part}
 use Rattle.pugdrel.proofs.LineTelling.{messages-told}
 use borrow.Author.Needs.{needs}

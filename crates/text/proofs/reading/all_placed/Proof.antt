@@ -6,7 +6,8 @@ use native.Mathlib.Omega.{arith}
 use lib.ListN.{length}
 use Rattle.laws.specs.Tests.{every}
 use Rattle.laws.proofs.Tests.{every-next}
-use Rattle.text.specs.Text.{byte, placed}
+use Rattle.text.specs.Text.{byte}
+use Rattle.text.specs.working.Characters.{placed}
 use Rattle.text.proofs.reading.all_placed.Statement.{statement}
 use Rattle.text.proofs.reading.all_placed.Tie as tie
 

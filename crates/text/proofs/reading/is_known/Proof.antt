@@ -6,7 +6,8 @@ use native.Mathlib.Omega.{arith}
 use lib.ListN.{length}
 use Rattle.laws.specs.Tests.{every}
 use Rattle.laws.proofs.Tests.{every-next}
-use Rattle.text.specs.Text.{byte, isKnown, known}
+use Rattle.text.specs.Text.{byte, known}
+use Rattle.text.specs.working.Characters.{isKnown}
 use Rattle.text.proofs.reading.is_known.Statement.{statement}
 use Rattle.text.proofs.reading.is_known.Tie as tie
 
