@@ -1,34 +1,24 @@
 -- What holds after each turn of the loops over cells and words.
 -- Assumes nothing.
-use mathlib.Core.Path.{_≡_, refl, sym, ap, ap₂, _∙_, subst}
-use mathlib.Core.Bool.{cond}
+use mathlib.Core.Path.{_≡_, refl, sym, ap, _∙_, subst}
 use mathlib.Core.List.{List}
-use Prim.Native.Nat.{ℕ, zero, suc, _+_, _-_, _*_, _<_, _≤_}
-use native.Mathlib.Nat.{zero-mul, one-mul, suc-mul, add-zero, add-assoc, not-suc-le-zero}
+use Prim.Native.Nat.{ℕ, suc, _+_, _-_, _*_, _<_, _≤_}
+use native.Mathlib.Nat.{zero-mul, suc-mul, add-zero, add-assoc, not-suc-le-zero}
 use native.Mathlib.Decide.{ℕ-discrete}
-use native.Mathlib.Numerals.{add-one}
 use native.Mathlib.Omega.{arith}
 use borrow.Rule.Slice.PartMut.{putMid}
-use lib.Bits.{bitXor}
-use lib.Dec.{eqb}
 use lib.ListN.{length, take, drop, getD, set, length-set, length-drop}
 use lib.Seq.{length-take-le, getD-take, getD-drop, ext-getD, getD-set-same, getD-set-other}
-use Rattle.laws.specs.working.Bits.{bitAt}
-use Rattle.laws.proofs.Bits.{bit-at-lt}
-use Rattle.laws.specs.Digits.{digits}
 use Rattle.degree.specs.declared.Degree.{Degree}
 use Rattle.degree.specs.Degree.{size}
 use Rattle.line.specs.Cells.{IsWord}
 use Rattle.line.specs.working.Packed.{PacksWord}
 use Rattle.line.specs.Encoding.{messageSize, encodeLine}
 use Rattle.array.specs.Arrays.{line, lines}
-use Rattle.array.specs.working.EncodedRows.{EncodedRows, rowWord}
-use Rattle.laws.specs.working.Sums.{xorTo}
+use Rattle.array.specs.working.EncodedRows.{EncodedRows}
 use Rattle.array.proofs.ArrayLaws.{Even, line-at, line-cells, length-line, line-room}
 use Rattle.array.proofs.WrittenLines.{Lining, part-at, lining-start, lining-room, lining-part, lining-put, lining-all}
 use Rattle.line.proofs.Bounds.{square-le, message-le}
-use Rattle.laws.proofs.DigitSums.{digits-length}
-use Rattle.laws.proofs.Linear.{to-last, digits-at}
 
 -- what holds of the first a entries of a list, and of the next one that is put, holds of one entry more
 put-next : (P : ℕ → ℕ → Type 0) (l : List ℕ) (a x : ℕ) → a < length l → ((b : ℕ) → b < a → P b (getD l b 0)) → P a x
@@ -92,49 +82,6 @@ module _ {d : Degree} {k : ℕ} {m ws₀ ws : List ℕ} {a at : ℕ} (w : Encodi
       long = length-set ws a x ∙ w .long;
       words = put-next (λ b y. PacksWord (size d) (encodeLine d (line k m b)) y) ws a x (encoding-word l) (w .words) (rw (f, ← encoding-part) e);
     }
-
--- ---- a row of the array, a word a turn
-
--- what is added where a bit is 1 is the bit's multiple
-where-one : (x b : ℕ) → b < 2 → cond (eqb b 1) x 0 ≡ b * x
-where-one x zero h = sym (zero-mul x)
-where-one x (suc zero) h = sym (one-mul x)
-where-one x (suc (suc b)) h = absurd (omega arith)
-
-module _ (t ws : List ℕ) (i sum a : ℕ) (e : sum ≡ rowWord t ws a i) where
-  more : rowWord t ws (a + 1) i ≡ bitXor sum (bitAt (getD t a 0) i * getD ws a 0)
-  unfolding rowWord
-  more =
-      ap (λ (x : ℕ). xorTo x (λ a. bitAt (getD t a 0) i * getD ws a 0)) (add-one a)
-      ∙ to-last a (λ a. bitAt (getD t a 0) i * getD ws a 0) ∙ ap (λ (x : ℕ). bitXor x (bitAt (getD t a 0) i * getD ws a 0)) (sym e)
-
-  -- one word more: it is added where its entry has bit i
-  pub row-next : {unit word bit next : ℕ} → unit ≡ getD t a 0 → bit ≡ bitAt unit i → word ≡ getD ws a 0 → next ≡ bitXor sum (cond (eqb bit 1) word 0)
-      → next ≡ rowWord t ws (a + 1) i
-  row-next u b w n =
-      n ∙ ap₂ (λ (x y : ℕ). bitXor sum (cond (eqb x 1) y 0)) (b ∙ ap (λ (x : ℕ). bitAt x i) u) w
-      ∙ ap (bitXor sum) (where-one (getD ws a 0) (bitAt (getD t a 0) i) (bit-at-lt (getD t a 0) i)) ∙ sym more
-
-  pub row-all : (k : ℕ) → a ≤ k → k ≤ a → sum ≡ rowWord t ws k i
-  row-all k l h = let n : a ≡ k = omega arith in e ∙ ap (λ (x : ℕ). rowWord t ws x i) n
-
--- ---- bits written into a row, a cell a turn
-
-pub record PutBits (word : ℕ) (row₀ row : List ℕ) (j : ℕ) : Type 0 where
-  pub long : length row ≡ length row₀
-  pub cells : (i : ℕ) → i < j → getD row i 0 ≡ bitAt word i
-
-pub put-bits-start : (word : ℕ) (row : List ℕ) → PutBits word row row 0
-put-bits-start word row = record { long = refl; cells = λ i h. absurd (not-suc-le-zero h) }
-
-module _ {word : ℕ} {row₀ row : List ℕ} {j : ℕ} (w : PutBits word row₀ row j) where
-  pub put-bits-next : j < length row → (x : ℕ) → x ≡ bitAt word j → PutBits word row₀ (set row j x) (j + 1)
-  put-bits-next h x e = record { long = length-set row j x ∙ w .long; cells = put-next (λ i y. y ≡ bitAt word i) row j x h (w .cells) e }
-
-  pub put-bits-end : length row ≤ j → row ≡ digits (length row₀) word
-  put-bits-end h =
-      ext-getD 0 row (digits (length row₀) word) (w .long ∙ sym (digits-length (length row₀) word))
-      (λ i q. w .cells i (omega arith) ∙ sym (digits-at (length row₀) word i (omega (arith, w .long))))
 
 -- ---- message cells copied out of an array, a row a turn
 

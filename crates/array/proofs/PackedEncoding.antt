@@ -21,7 +21,8 @@ use Rattle.line.proofs.LineEncoding.{summed}
 use Rattle.line.proofs.UnitLaws.{pack-packs, unit-bit}
 use Rattle.array.specs.Arrays.{line, lines}
 use Rattle.array.specs.Encoding.{encodeLines, encodeArray, ProductCodeword}
-use Rattle.array.specs.working.EncodedRows.{EncodedRows, rowWord}
+use Rattle.array.specs.working.EncodedRows.{EncodedRows}
+use Rattle.words.specs.working.Sums.{chosenSum}
 use Rattle.array.proofs.ArrayLaws.{line-at, lines-are}
 use Rattle.array.proofs.ArrayEncoding.{line-coded, encoded-line, cell-rows, encode-codeword}
 
@@ -67,18 +68,18 @@ module _ (d : Degree) (t : List ℕ) (U : Units d t) (m : List ℕ) (M : IsWord 
 
   -- the rows made from the words of the encoded message rows are the array's
   packed-array : (ws : List ℕ) → EncodedRows d m ws
-      → lines (λ i. digits (size d) (rowWord t ws (messageSize d) i)) (size d) ≡ array
-  unfolding rowWord
+      → lines (λ i. digits (size d) (chosenSum t ws (messageSize d) i)) (size d) ≡ array
+  unfolding chosenSum
   packed-array ws W =
       lines-are (size d) _ (size d) array (A .whole)
       (λ i h.
       let r = line (size d) array i in
-      let same : rowWord t ws (messageSize d) i ≡ pack r =
+      let same : chosenSum t ws (messageSize d) i ≡ pack r =
       to-cong (messageSize d) _ _ (λ a z. ap (λ (x : ℕ). bitAt (getD t a 0) i * x) (W .at a z .ones ∙ pack-packs (encodeLine d (rowOf a))))
       ∙ sym (packed-row i h) in
       ap (digits (size d)) same ∙ ap (λ (x : ℕ). digits x (pack r)) (sym (A .rows i h .word .long)) ∙ digits-pack r (A .rows i h .word .small))
 
 -- what the encoder's parts make is the encoded array
 pub by-units : (d : Degree) (t m ws : List ℕ) (n k : ℕ) → Units d t → IsWord (messageSize d * messageSize d) m → EncodedRows d m ws → n ≡ size d → k ≡ messageSize d
-    → lines (λ i. digits n (rowWord t ws k i)) n ≡ encodeArray d m
+    → lines (λ i. digits n (chosenSum t ws k i)) n ≡ encodeArray d m
 by-units d t m ws n k U M W e f = rw (e, f) (packed-array d t U m M ws W)

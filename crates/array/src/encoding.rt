@@ -8,24 +8,22 @@ use line::encoding::unit_table;
 use line::packed::Line;
 use line::refusals::Call;
 use line::refusals::number_of;
-use line::word::Word;
-use line::word::bit_at;
-use line::word::of_number;
-use line::word::to_number;
-use line::word::xor_where;
-use line::word::zero_word;
+use words::pairs::spread_pair;
+use words::sums::chosen_sum;
+use words::word::to_number;
+use words::word::zero_word;
 ghost use mathlib.Core.Path.{_≡_};
-ghost use Prim.Native.Nat.{_*_, _<_, _≤_};
+ghost use Prim.Native.Nat.{_*_, _%_, _≤_};
 ghost use lib.ListN.{length};
 ghost use Rattle.degree.specs.Degree.{size};
 ghost use Rattle.laws.specs.Digits.{digits};
 ghost use Rattle.line.specs.Cells.{IsWord};
 ghost use Rattle.line.specs.Encoding.{messageSize};
 ghost use Rattle.line.specs.working.Units.{Units};
-ghost use Rattle.line.specs.working.Word.{value};
+ghost use Rattle.words.specs.working.Sums.{chosenSum};
 ghost use Rattle.array.specs.Arrays.{lines};
 ghost use Rattle.array.specs.Encoding.{encodeArray};
-ghost use Rattle.array.specs.working.EncodedRows.{EncodedRows, rowWord};
+ghost use Rattle.array.specs.working.EncodedRows.{EncodedRows};
 ghost use Rattle.array.specs.Entries.{Encoded};
 
 // The words of the message rows.
@@ -45,44 +43,18 @@ fn encode_rows(d: Degree, units: &UnitTable, message: &[u8], words: &mut [u64])
     }
 }
 
-// Row i of the array: the sum of the k words whose unit has bit i.
-fn row_word(k: usize, units: &UnitTable, words: &[u64], i: u32) -> Word
-    requires { ⌜ (k ≤ 64) × (length (now words) ≡ 64) × (i < 64) ⌝ }
-    ensures { λ r. ⌜ value r ≡ rowWord (now (units .entry)) (now (words .entry)) k i ⌝ }
-{
-    let mut sum = zero_word();
-    let mut a = 0;
-    while a < k {
-        let bit = bit_at(of_number(units[a]), i);
-        sum = xor_where(bit == 1, sum, of_number(words[a]));
-        a += 1;
-    }
-    sum
-}
-
-// The cells of a word into a row.
-fn write_row(word: Word, row: &mut [u8])
-    requires { ⌜ length (now row) ≤ 64 ⌝ }
-    ensures { λ _. ⌜ now (row .exit) ≡ digits (length (now (row .entry))) (value word) ⌝ }
-{
-    let mut j = 0;
-    while j < row.len() {
-        row[j] = bit_at(word, j as u32) as u8;
-        j += 1;
-    }
-}
-
-// All rows of the array.
+// All rows of the array: row i is the sum of the k words whose unit has bit i.
 fn write_rows(n: usize, k: usize, units: &UnitTable, words: &[u64], cells: &mut [u8])
-    requires { ⌜ (k ≤ 64) × (length (now words) ≡ 64) × (n ≤ 64) × (length (now cells) ≡ n * n) ⌝ }
-    ensures { λ _. ⌜ now (cells .exit) ≡ lines (λ i. digits n (rowWord (now (units .entry)) (now (words .entry)) k i)) n ⌝ }
+    requires { ⌜ (k ≤ 64) × (length (now words) ≡ 64) × (n ≤ 64) × (n % 8 ≡ 0) × (length (now cells) ≡ n * n) ⌝ }
+    ensures { λ _. ⌜ now (cells .exit) ≡ lines (λ i. digits n (chosenSum (now (units .entry)) (now (words .entry)) k i)) n ⌝ }
 {
+    let none = zero_word();
     let mut i = 0;
     let mut at = 0;
     while i < n {
         let end = at + n;
-        let word = row_word(k, units, words, i as u32);
-        write_row(word, &mut cells[at..end]);
+        let word = chosen_sum(k, units, words, i as u32);
+        spread_pair(word, none, &mut cells[at..end]); // no cell of an encoded row is unsure
         at = end;
         i += 1;
     }

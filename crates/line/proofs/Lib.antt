@@ -1,8 +1,6 @@
 pub mod CellLaws
 pub mod PackBits
 mod Packing
-mod Gathering
-mod Spreading
 pub mod RowLaws
 mod SumLaws
 mod Flips

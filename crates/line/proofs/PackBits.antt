@@ -57,11 +57,6 @@ module _ (p : ℕ → Bool) where
       flat true = refl
       flat false = refl
 
-  pub packBy-append : (xs ys : List ℕ) → packBy p (xs ++ ys) ≡ packBy p ys * 2 ^ length xs + packBy p xs
-  unfolding packBy
-  packBy-append [] ys = omega arith
-  packBy-append (x ∷ xs) ys = rw (packBy-append xs ys, pow-suc 2 (length xs), ← mul-assoc (packBy p ys) (2 ^ length xs) 2) (omega arith)
-
 -- ---- one cell
 
 -- what holds of the cells 0, 1 and 2 holds of a cell

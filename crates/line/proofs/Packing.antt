@@ -2,25 +2,26 @@
 -- Assumes nothing.
 use mathlib.Core.Path.{_≡_, refl, sym, ap, ap₂, _∙_}
 use mathlib.Core.Bool.{Bool, true, false}
-use mathlib.Core.List.{List}
-use Prim.Native.Nat.{ℕ, _+_, _-_, _*_, _/_, _%_, _^_, _<_}
+use mathlib.Core.List.{List, [], _∷_}
+use Prim.Native.Nat.{ℕ, suc, _+_, _-_, _*_, _/_, _%_, _^_, _<_, _≤_}
+use native.Mathlib.Nat.{one-mul}
 use native.Mathlib.Omega.{arith}
 use lib.Bits.{bitAnd, bitOr, bitXor, xor-self, and-le-l}
 use lib.Count.{ones}
 use lib.ListN.{length, set}
-use lib.Pow.{shl-exact}
 use Rattle.laws.specs.Bits.{bit}
 use Rattle.laws.specs.working.Bits.{xorb}
 use Rattle.laws.proofs.Xor.{bit-ind}
-use Rattle.laws.proofs.Bits.{bit-one, xor-bit}
+use Rattle.laws.proofs.Bits.{bit-one, xor-bit, low-bit, half-bit}
+use Rattle.words.specs.working.Pairs.{bitsOf, pairsOf}
 use Rattle.line.specs.declared.side.Side.the-variants.{One, Two}
-use Rattle.line.specs.declared.word.Word.{Word}
+use Rattle.words.specs.declared.word.Word.{Word}
 use Rattle.line.specs.declared.packed.Line.{Line}
-use Rattle.line.specs.working.Word.{value, width}
+use Rattle.words.specs.working.Word.{value, width}
 use Rattle.line.specs.Cells.{cell, isErased, erasures, distance, filled, flip}
 use Rattle.line.specs.working.Packed.{isOne, packBy, Packs, PacksWord}
 use Rattle.line.proofs.CellLaws.{set-cells, filled-word}
-use Rattle.line.proofs.PackBits.{packBy-bit, packBy-set, cell-ind, cell-of, filled-first, filled-second, no-erased, ones-erased, ones-differing}
+use Rattle.line.proofs.PackBits.{Small, packBy-bit, packBy-set, cell-ind, cell-of, filled-first, filled-second, no-erased, ones-erased, ones-differing}
 
 -- cell k of a packed line
 pub cell-of-line : {n : ℕ} {cs : List ℕ} {l : Line} (k : ℕ) → Packs n cs l → value (l .ones) / 2 ^ k % 2 + 2 * (value (l .erased) / 2 ^ k % 2) ≡ cell cs k
@@ -98,15 +99,43 @@ no-differences {l} {w} p q e =
     sym zero ∙ differences-of p q
 
 -- a cell of a packed word flipped
-pub flip-packed : {n : ℕ} {ws : List ℕ} {w : ℕ} (k : ℕ) → PacksWord n ws w → k < n → PacksWord n (flip k ws) (bitXor w (1 * 2 ^ k % 2 ^ 64))
+pub flip-packed : {n : ℕ} {ws : List ℕ} {v w : ℕ} (k : ℕ) → v ≡ bitXor w (2 ^ k) → PacksWord n ws w → k < n → PacksWord n (flip k ws) v
 unfolding flip
-flip-packed {n} {ws} {w} k p h =
+flip-packed {n} {ws} {w} k e p h =
     let m : k < length ws = rw (p .cells .long) h in
-    let one : 1 * 2 ^ k % 2 ^ 64 ≡ bit true * 2 ^ k = shl-exact 1 k 64 (omega arith) (omega (arith, p .room)) in
     let turned : xorb (isOne (cell ws k)) (isOne (1 - cell ws k)) ≡ true =
     bit-ind (λ (c : ℕ). xorb (isOne c) (isOne (1 - c)) ≡ true) refl refl (p .cells .small k) in
     record {
       room = p .room;
       cells = set-cells k (1 - cell ws k) (omega arith) (p .cells);
-      ones = ap₂ bitXor (p .ones) (one ∙ ap (λ (b : Bool). bit b * 2 ^ k) (sym turned)) ∙ packBy-set isOne ws k (1 - cell ws k) m;
+      ones = e ∙ ap₂ bitXor (p .ones) (sym (one-mul (2 ^ k)) ∙ ap (λ (b : Bool). bit b * 2 ^ k) (sym turned)) ∙ packBy-set isOne ws k (1 - cell ws k) m;
     }
+
+-- ---- cells in bytes
+
+-- bit j of a cell is what p tells of it
+bits-packed : (j : ℕ) (p : ℕ → Bool) → ((c : ℕ) → c < 3 → c / 2 ^ j % 2 ≡ bit (p c)) → (cs : List ℕ) → Small 3 cs → bitsOf j cs ≡ packBy p cs
+unfolding bitsOf packBy
+bits-packed j p e [] s = refl
+bits-packed j p e (c ∷ cs) s = rw (e c (s 0), bits-packed j p e cs (λ i. s (suc i)))
+
+-- the words of the two lowest bits of cells pack them
+pub pack-pair : (cs : List ℕ) → length cs ≤ width → Small 3 cs → {o e : Word} → value o ≡ bitsOf 0 cs → value e ≡ bitsOf 1 cs
+    → Packs (length cs) cs (record { ones = o; erased = e })
+pack-pair cs room s eo ee = record {
+  room = room;
+  cells = record { long = refl; small = s };
+  ones = eo ∙ bits-packed 0 isOne (λ c h. cell-ind (λ (c : ℕ). c / 2 ^ 0 % 2 ≡ bit (isOne c)) refl refl refl h) cs s;
+  erased = ee ∙ bits-packed 1 isErased (λ c h. cell-ind (λ (c : ℕ). c / 2 ^ 1 % 2 ≡ bit (isErased c)) refl refl refl h) cs s;
+}
+
+pairs-packed : (cs : List ℕ) → Small 3 cs → pairsOf (length cs) (packBy isOne cs) (packBy isErased cs) ≡ cs
+unfolding pairsOf packBy
+pairs-packed [] s = refl
+pairs-packed (c ∷ cs) s =
+    rw (low-bit (packBy isOne cs) (isOne c), low-bit (packBy isErased cs) (isErased c), half-bit (packBy isOne cs) (isOne c), half-bit (packBy isErased cs) (isErased c), cell-of (s 0))
+    (ap {B = List ℕ} (λ r. c ∷ r) (pairs-packed cs (λ i. s (suc i))))
+
+-- the cells that two words say are those that they pack
+pub unpack-pair : {n : ℕ} {cs : List ℕ} {l : Line} → Packs n cs l → pairsOf n (value (l .ones)) (value (l .erased)) ≡ cs
+unpack-pair {cs} p = rw (p .ones, p .erased, ← p .cells .long) (pairs-packed cs (p .cells .small))

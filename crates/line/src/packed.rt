@@ -1,25 +1,20 @@
 // A line packed in words. Only this module knows how.
 use crate::side::Side;
-use crate::word::Word;
-use crate::word::above_byte;
-use crate::word::and_words;
-use crate::word::bit_at;
-use crate::word::count_bits;
-use crate::word::is_zero;
-use crate::word::lowest_byte;
-use crate::word::not_word;
-use crate::word::or_words;
-use crate::word::put_bit;
-use crate::word::same_word;
-use crate::word::with_byte;
-use crate::word::without;
-use crate::word::xor_words;
-use crate::word::zero_word;
 use degree::Degree;
-use words::bytes::eight;
-use words::bytes::gather;
-use words::bytes::put_eight;
-use words::bytes::spread;
+use words::pairs::gather_pair;
+use words::pairs::spread_pair;
+use words::word::Word;
+use words::word::and_words;
+use words::word::bit_at;
+use words::word::count_bits;
+use words::word::is_zero;
+use words::word::not_word;
+use words::word::or_words;
+use words::word::put_bit;
+use words::word::same_word;
+use words::word::without;
+use words::word::xor_words;
+use words::word::zero_word;
 ghost use mathlib.Core.Path.{_≡_};
 ghost use mathlib.Core.List.{List};
 ghost use Prim.Native.Nat.{ℕ, _*_, _<_, _≤_, _%_};
@@ -27,7 +22,7 @@ ghost use lib.Bits.{bitAnd, bitOr, bitXor};
 ghost use lib.ListN.{length, set};
 ghost use Rattle.degree.specs.Degree.{size};
 ghost use Rattle.line.specs.Cells.{cell, erasures, distance, filled};
-ghost use Rattle.line.specs.working.Word.{value, width};
+ghost use Rattle.words.specs.working.Word.{value, width};
 ghost use Rattle.line.specs.Encoding.{checkSize, messageSize};
 ghost use Rattle.line.specs.working.Packed.{Packs, PacksWord, sideWord};
 
@@ -199,39 +194,22 @@ pub fn known_only_in(a: Line, b: Line) -> Word
     without(a.erased, b.erased)
 }
 
-// ---- from cells in bytes to a packed line, eight cells at a time
+// ---- from cells in bytes to a packed line, and back
 
+// The lowest bit of a cell says that it is 1, the one above that it is unsure.
 pub fn pack(cells: &[u8]) -> Line
     requires { ⌜ (length (now cells) ≤ width) × (length (now cells) % 8 ≡ 0) × ((i : ℕ) → cell (now cells) i < 3) ⌝ }
     ensures { λ r. ⌜ Packs (length (now (cells .entry))) (now (cells .entry)) r ⌝ }
 {
-    let mut ones = zero_word();
-    let mut erased = zero_word();
-    let mut at = 0;
-    while at < cells.len() {
-        let x = eight(cells, at);
-        ones = with_byte(ones, at, gather(x));
-        erased = with_byte(erased, at, gather(x >> 1));
-        at += 8;
-    }
+    let bits = gather_pair(cells);
+    let ones = bits.low;
+    let erased = bits.high;
     Line { ones, erased }
 }
-
-// ---- and back
 
 pub fn unpack(l: Line, cells: &mut [u8])
     requires { ⌜ length (now cells) % 8 ≡ 0 ⌝ }
     ensures { λ _. ⌜ (length (now (cells .exit)) ≡ length (now (cells .entry))) × ((cs : List ℕ) → Packs (length (now (cells .entry))) cs l → now (cells .exit) ≡ cs) ⌝ }
 {
-    let mut ones = l.ones;
-    let mut erased = l.erased;
-    let mut at = 0;
-    while at < cells.len() {
-        let x = lowest_byte(ones);
-        let y = lowest_byte(erased);
-        put_eight(cells, at, spread(x) + 2 * spread(y));
-        ones = above_byte(ones);
-        erased = above_byte(erased);
-        at += 8;
-    }
+    spread_pair(l.ones, l.erased, cells)
 }

@@ -3,3 +3,5 @@ mod CopyLaws
 pub mod ByteLaws
 mod GatherLaws
 pub mod ZeroLaws
+pub mod PairLaws
+mod SumLaws

@@ -1,2 +1,5 @@
 pub mod Bytes
 pub mod Network
+pub mod Pairs
+pub mod Sums
+pub mod Word

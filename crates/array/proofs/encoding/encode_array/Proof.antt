@@ -5,6 +5,7 @@ use Prim.Native.Nat.{_*_}
 use native.Mathlib.Omega.{arith}
 use borrow.Author.Needs.{needs}
 use Rattle.line.proofs.Bounds.{size-le, message-le}
+use Rattle.line.proofs.RowLaws.{size-eights}
 use Rattle.array.proofs.PackedEncoding.{by-units}
 use Rattle.array.proofs.encoding.encode_array.Statement.{statement}
 use Rattle.array.proofs.encoding.encode_array.Tie as tie
@@ -34,7 +35,7 @@ write-rows-requires c κs =
     let r = q .before .before in
     let u = r .before .before .before .before .before in
     let s = u .before in
-    (message-le (s .args .d) (m .message-cells .ensures), omega arith, size-le (s .args .d) (q .size-of .ensures), s .pre .1 ∙ ap₂ _*_ (sym (q .size-of .ensures)) (sym (q .size-of .ensures)))
+    (message-le (s .args .d) (m .message-cells .ensures), omega arith, size-le (s .args .d) (q .size-of .ensures), rw (q .size-of .ensures) (size-eights (s .args .d)), s .pre .1 ∙ ap₂ _*_ (sym (q .size-of .ensures)) (sym (q .size-of .ensures)))
 
 same-length : tie.Need-same-length
 same-length c = search needs

@@ -1,10 +1,13 @@
 -- `encoding::write_rows` meets its contract. The loop's invariant: the first i rows are written, the others as they were.
 -- Assumes nothing.
-use Prim.Native.Nat.{_-_}
-use mathlib.Core.Path.{ap₂, _∙_}
+use Prim.Native.Nat.{ℕ, _-_}
+use mathlib.Core.Path.{_≡_, _∙_}
 use native.Mathlib.Omega.{arith}
 use Rattle.laws.specs.Digits.{digits}
-use Rattle.array.specs.working.EncodedRows.{rowWord}
+use Rattle.words.specs.working.Pairs.{pairsOf}
+use Rattle.words.specs.working.Sums.{chosenSum}
+use Rattle.words.specs.working.Word.{value}
+use Rattle.words.proofs.PairLaws.{pairs-digits}
 use Rattle.line.proofs.Bounds.{square-le}
 use Rattle.laws.proofs.DigitSums.{digits-length}
 use Rattle.array.proofs.WrittenLines.{Lining, lining-start, lining-length, lining-room, lining-free, lining-part, lining-put, lining-all}
@@ -12,39 +15,46 @@ use Rattle.array.proofs.encoding.write_rows.Statement.{statement}
 use Rattle.array.proofs.encoding.write_rows.Tie as tie
 
 abbrev Inv-loop : tie.InvT-loop
-Inv-loop n k units words cells₀ i₀ at₀ cells i at = Lining n (λ j. digits n (rowWord units words k j)) n 0 cells₀ cells i at
+Inv-loop n k units words cells₀ none i₀ at₀ cells i at = (value none ≡ 0) × Lining n (λ j. digits n (chosenSum units words k j)) n 0 cells₀ cells i at
 
 abbrev μ-loop : tie.MeasureT-loop
-μ-loop n k units words cells₀ i₀ at₀ cells i at = n - i
+μ-loop n k units words cells₀ none i₀ at₀ cells i at = n - i
+
+zero-word-requires : tie.Need-zero-word-requires Inv-loop μ-loop
+zero-word-requires c κs = tt
+
+-- what is spread beside a word of 0 are the digits of the other
+written : {m n low high sum : ℕ} → m ≡ n → high ≡ 0 → low ≡ sum → pairsOf m low high ≡ digits n sum
+written {n} {sum} e z s = rw (e, z, s) (pairs-digits n sum)
 
 loop-holds : tie.Need-loop-holds Inv-loop μ-loop
-loop-holds c = lining-start (λ j z. digits-length _ _) (omega (arith, c .before .before .pre .3))
+loop-holds c = (c .zero-word .ensures, lining-start (λ j z. digits-length _ _) (omega (arith, c .before .before .before .pre .4)))
 
 add-end : tie.Need-add-end Inv-loop μ-loop
 add-end c =
-    omega (arith, lining-room (c .before .loop .inv) (c .loop-test .taken), square-le _ (c .before .before .before .before .pre .2))
+    omega (arith, lining-room (c .before .loop .inv .1) (c .loop-test .taken), square-le _ (c .before .before .before .before .before .pre .2))
 
-cast-row-word : tie.Need-cast-row-word Inv-loop μ-loop
-cast-row-word c = omega (arith, c .before .before .before .before .pre .2)
+cast-chosen-sum : tie.Need-cast-chosen-sum Inv-loop μ-loop
+cast-chosen-sum c = omega (arith, c .before .before .before .before .before .pre .2)
 
-row-word-requires : tie.Need-row-word-requires Inv-loop μ-loop
-row-word-requires c κs =
-    let p = c .before .before .before .before .pre in
+chosen-sum-requires : tie.Need-chosen-sum-requires Inv-loop μ-loop
+chosen-sum-requires c κs =
+    let p = c .before .before .before .before .before .pre in
     (p .0, p .1, omega (arith, p .2))
 
-sub-write-row : tie.Need-sub-write-row Inv-loop μ-loop
-sub-write-row c = omega arith
+sub-spread-pair : tie.Need-sub-spread-pair Inv-loop μ-loop
+sub-spread-pair c = omega arith
 
-part-write-row-start : tie.Need-part-write-row-start Inv-loop μ-loop
-part-write-row-start c = omega arith
+part-spread-pair-start : tie.Need-part-spread-pair-start Inv-loop μ-loop
+part-spread-pair-start c = omega arith
 
-part-write-row-end : tie.Need-part-write-row-end Inv-loop μ-loop
-part-write-row-end c = lining-free (c .before .before .loop .inv) (c .before .loop-test .taken)
+part-spread-pair-end : tie.Need-part-spread-pair-end Inv-loop μ-loop
+part-spread-pair-end c = lining-free (c .before .before .loop .inv .1) (c .before .loop-test .taken)
 
-write-row-requires : tie.Need-write-row-requires Inv-loop μ-loop
-write-row-requires c κs =
+spread-pair-requires : tie.Need-spread-pair-requires Inv-loop μ-loop
+spread-pair-requires c κs =
     let q = c .before .before .before in
-    omega (arith, lining-part (q .loop .inv) (c .before .before .loop-test .taken), q .before .before .before .pre .2)
+    omega (arith, lining-part (q .loop .inv .1) (c .before .before .loop-test .taken), q .before .before .before .before .pre .3)
 
 add-i : tie.Need-add-i Inv-loop μ-loop
 add-i c = omega arith
@@ -55,15 +65,16 @@ loop-less c = omega arith
 loop-again : tie.Need-loop-again Inv-loop μ-loop
 loop-again c =
     let q = c .before .before in
-    let w = q .before .before .before .before .loop .inv in
+    let l = q .before .before .before .before .loop in
+    let w = l .inv .1 in
     let h = q .before .before .before .loop-test .taken in
-    lining-put w h _ (q .write-row .ensures ∙ ap₂ digits (lining-part w h) (q .before .before .row-word .ensures))
+    (l .inv .0, lining-put w h _ (q .spread-pair .ensures ∙ written (lining-part w h) (l .inv .0) (q .before .before .chosen-sum .ensures)))
 
 same-length : tie.Need-same-length Inv-loop μ-loop
-same-length c = lining-length (c .before .loop .inv)
+same-length c = lining-length (c .before .loop .inv .1)
 
 returns : tie.Need-returns Inv-loop μ-loop
-returns c = lining-all (c .before .loop .inv) (c .before .before .before .before .pre .3) (c .loop-test .left)
+returns c = lining-all (c .before .loop .inv .1) (c .before .before .before .before .before .pre .4) (c .loop-test .left)
 
 pub write-rows-spec : {M : Type 1} → statement M
 write-rows-spec =
@@ -71,14 +82,15 @@ write-rows-spec =
     (tie.spec
     Inv-loop
     μ-loop
+    zero-word-requires
     loop-holds
     add-end
-    cast-row-word
-    row-word-requires
-    sub-write-row
-    part-write-row-start
-    part-write-row-end
-    write-row-requires
+    cast-chosen-sum
+    chosen-sum-requires
+    sub-spread-pair
+    part-spread-pair-start
+    part-spread-pair-end
+    spread-pair-requires
     add-i
     loop-less
     loop-again

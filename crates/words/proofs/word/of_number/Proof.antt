@@ -1,0 +1,13 @@
+-- `words::word::of_number` meets its contract: the number is the machine word.
+-- Assumes nothing.
+use mathlib.Core.Path.{refl}
+use Rattle.words.specs.working.Word.{value}
+use Rattle.words.proofs.word.of_number.Statement.{statement}
+use Rattle.words.proofs.word.of_number.Tie as tie
+
+returns : tie.Need-returns
+unfolding value
+returns c = refl
+
+pub of-number-spec : {M : Type 1} → statement M
+of-number-spec = tie.close (tie.spec returns)
