@@ -1,6 +1,6 @@
 mod SwapLaws
 mod CopyLaws
-pub mod ByteLaws
+mod ByteLaws
 mod GatherLaws
 pub mod ZeroLaws
 pub mod PairLaws

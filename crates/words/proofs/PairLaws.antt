@@ -18,7 +18,7 @@ use Rattle.words.proofs.ByteLaws.{bytes-joined}
 
 -- ---- gathered
 
-abbrev pub Bytes : List ℕ → Type 0
+abbrev Bytes : List ℕ → Type 0
 Bytes bs = (i : ℕ) → getD bs i 0 < 256
 
 bits-lt : (j : ℕ) (bs : List ℕ) → bitsOf j bs < 2 ^ length bs
