@@ -20,7 +20,7 @@ use Rattle.laws.proofs.Lists.{zeros-at}
 use Rattle.line.specs.working.Packed.{IsLine, isOne, packBy, Packs}
 use Rattle.line.specs.Cells.{isErased}
 use Rattle.line.specs.declared.packed.Line.{Line}
-use Rattle.words.specs.working.Word.{value}
+use Rattle.line.specs.working.Word.{value}
 use Rattle.line.proofs.RowLaws.{size-room, size-eights}
 use Rattle.words.specs.working.Network.{Turned}
 use Rattle.words.proofs.ZeroLaws.{Zeros, zeros-turned}

@@ -18,8 +18,8 @@ use Rattle.line.specs.Cells.{bit, isErased, erasures}
 use Rattle.line.specs.Codeword.{isCodeword}
 use Rattle.line.specs.working.Packed.{Packs, PacksWord}
 use Rattle.line.specs.declared.packed.Line.{Line}
-use Rattle.words.specs.declared.word.Word.{Word}
-use Rattle.words.specs.working.Word.{value}
+use Rattle.line.specs.declared.word.Word.{Word}
+use Rattle.line.specs.working.Word.{value}
 use Rattle.line.proofs.RowLaws.{size-room}
 use Rattle.array.specs.declared.report.Report.{Report}
 use Rattle.array.specs.Arrays.{line, transpose}

@@ -8,10 +8,9 @@ use line::encoding::unit_table;
 use line::packed::Line;
 use line::refusals::Call;
 use line::refusals::number_of;
+use line::word::to_number;
 use words::pairs::spread_pair;
 use words::sums::chosen_sum;
-use words::word::to_number;
-use words::word::zero_word;
 ghost use mathlib.Core.Path.{_≡_};
 ghost use Prim.Native.Nat.{_*_, _%_, _≤_};
 ghost use lib.ListN.{length};
@@ -43,18 +42,17 @@ fn encode_rows(d: Degree, units: &UnitTable, message: &[u8], words: &mut [u64])
     }
 }
 
-// All rows of the array: row i is the sum of the k words whose unit has bit i.
+// All rows of the array: row i is the sum of the k words whose unit has bit i. No cell of it is unsure.
 fn write_rows(n: usize, k: usize, units: &UnitTable, words: &[u64], cells: &mut [u8])
     requires { ⌜ (k ≤ 64) × (length (now words) ≡ 64) × (n ≤ 64) × (n % 8 ≡ 0) × (length (now cells) ≡ n * n) ⌝ }
     ensures { λ _. ⌜ now (cells .exit) ≡ lines (λ i. digits n (chosenSum (now (units .entry)) (now (words .entry)) k i)) n ⌝ }
 {
-    let none = zero_word();
     let mut i = 0;
     let mut at = 0;
     while i < n {
         let end = at + n;
         let word = chosen_sum(k, units, words, i as u32);
-        spread_pair(word, none, &mut cells[at..end]); // no cell of an encoded row is unsure
+        spread_pair(word, 0, &mut cells[at..end]);
         at = end;
         i += 1;
     }

@@ -10,7 +10,7 @@ use line::messages::messages_of;
 use line::row::update_row;
 use line::sending::send_row;
 use line::tables::LineTables;
-use words::word::of_number;
+use line::word::of_number;
 ghost use mathlib.Core.Path.{_≡_};
 ghost use mathlib.Core.List.{List};
 ghost use Prim.Native.Nat.{ℕ, _*_, _≤_};

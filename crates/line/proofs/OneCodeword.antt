@@ -23,7 +23,7 @@ use Rattle.line.specs.declared.side.Side.the-variants.{One, Two}
 use Rattle.line.specs.declared.packed.Line.{Line}
 use Rattle.line.specs.Cells.{cell, isErased, erasures, few, distance, filled, designedDistance, radius}
 use Rattle.line.specs.working.Packed.{packBy, Packs}
-use Rattle.words.specs.working.Word.{value}
+use Rattle.line.specs.working.Word.{value}
 use Rattle.line.proofs.PackBits.{packBy-bit}
 use Rattle.line.proofs.Packing.{bit-of-word}
 use Rattle.line.proofs.RowLaws.{word-packs-one}

@@ -4,20 +4,20 @@ use mathlib.Core.Path.{_≡_, refl, sym, ap, ap₂, _∙_}
 use mathlib.Core.Bool.{Bool, true, false}
 use mathlib.Core.List.{List, [], _∷_}
 use Prim.Native.Nat.{ℕ, suc, _+_, _-_, _*_, _/_, _%_, _^_, _<_, _≤_}
-use native.Mathlib.Nat.{one-mul}
 use native.Mathlib.Omega.{arith}
 use lib.Bits.{bitAnd, bitOr, bitXor, xor-self, and-le-l}
 use lib.Count.{ones}
 use lib.ListN.{length, set}
+use lib.Pow.{shl-exact}
 use Rattle.laws.specs.Bits.{bit}
 use Rattle.laws.specs.working.Bits.{xorb}
 use Rattle.laws.proofs.Xor.{bit-ind}
 use Rattle.laws.proofs.Bits.{bit-one, xor-bit, low-bit, half-bit}
 use Rattle.words.specs.working.Pairs.{bitsOf, pairsOf}
 use Rattle.line.specs.declared.side.Side.the-variants.{One, Two}
-use Rattle.words.specs.declared.word.Word.{Word}
+use Rattle.line.specs.declared.word.Word.{Word}
 use Rattle.line.specs.declared.packed.Line.{Line}
-use Rattle.words.specs.working.Word.{value, width}
+use Rattle.line.specs.working.Word.{value, width}
 use Rattle.line.specs.Cells.{cell, isErased, erasures, distance, filled, flip}
 use Rattle.line.specs.working.Packed.{isOne, packBy, Packs, PacksWord}
 use Rattle.line.proofs.CellLaws.{set-cells, filled-word}
@@ -99,16 +99,17 @@ no-differences {l} {w} p q e =
     sym zero ∙ differences-of p q
 
 -- a cell of a packed word flipped
-pub flip-packed : {n : ℕ} {ws : List ℕ} {v w : ℕ} (k : ℕ) → v ≡ bitXor w (2 ^ k) → PacksWord n ws w → k < n → PacksWord n (flip k ws) v
+pub flip-packed : {n : ℕ} {ws : List ℕ} {w : ℕ} (k : ℕ) → PacksWord n ws w → k < n → PacksWord n (flip k ws) (bitXor w (1 * 2 ^ k % 2 ^ 64))
 unfolding flip
-flip-packed {n} {ws} {w} k e p h =
+flip-packed {n} {ws} {w} k p h =
     let m : k < length ws = rw (p .cells .long) h in
+    let one : 1 * 2 ^ k % 2 ^ 64 ≡ bit true * 2 ^ k = shl-exact 1 k 64 (omega arith) (omega (arith, p .room)) in
     let turned : xorb (isOne (cell ws k)) (isOne (1 - cell ws k)) ≡ true =
     bit-ind (λ (c : ℕ). xorb (isOne c) (isOne (1 - c)) ≡ true) refl refl (p .cells .small k) in
     record {
       room = p .room;
       cells = set-cells k (1 - cell ws k) (omega arith) (p .cells);
-      ones = e ∙ ap₂ bitXor (p .ones) (sym (one-mul (2 ^ k)) ∙ ap (λ (b : Bool). bit b * 2 ^ k) (sym turned)) ∙ packBy-set isOne ws k (1 - cell ws k) m;
+      ones = ap₂ bitXor (p .ones) (one ∙ ap (λ (b : Bool). bit b * 2 ^ k) (sym turned)) ∙ packBy-set isOne ws k (1 - cell ws k) m;
     }
 
 -- ---- cells in bytes

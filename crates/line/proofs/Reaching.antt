@@ -26,7 +26,7 @@ use Rattle.line.specs.working.OneCell.{differs, filledCell}
 use Rattle.line.specs.Bounded.{Answer, Found, Failed, orBack, bounded}
 use Rattle.line.specs.Decoding.{replaced}
 use Rattle.line.specs.Clauses.{near, reach, same, agrees, answerCell, firstFit, byReach, clause}
-use Rattle.words.specs.working.Word.{value}
+use Rattle.line.specs.working.Word.{value}
 use Rattle.line.specs.working.Tries.{Answers, failed, found}
 use Rattle.line.specs.working.Fillings.{TrialOf, Sees}
 use Rattle.line.proofs.CellLaws.{bitsFrom, filled-cell, filled-word, distance-set, erased-or-known}

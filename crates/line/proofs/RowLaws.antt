@@ -19,7 +19,7 @@ use Rattle.field.proofs.Primitive.{primitive}
 use Rattle.laws.specs.Digits.{sumOver, ones, digits}
 use Rattle.field.specs.working.Checks.{IsSyndrome}
 use Rattle.line.specs.declared.packed.Line.{Line}
-use Rattle.words.specs.working.Word.{value, width}
+use Rattle.line.specs.working.Word.{value, width}
 use Rattle.line.specs.Cells.{cell}
 use Rattle.line.specs.working.Packed.{IsLine, isOne, packBy, Packs, PacksWord}
 use Rattle.line.proofs.CellLaws.{Bits}

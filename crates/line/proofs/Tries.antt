@@ -22,7 +22,7 @@ use Rattle.line.specs.declared.bounded.Tried.{Tried}
 use Rattle.line.specs.Cells.{flip}
 use Rattle.line.specs.Bounded.{bounded}
 use Rattle.line.specs.working.Packed.{PacksWord}
-use Rattle.words.specs.working.Word.{value}
+use Rattle.line.specs.working.Word.{value}
 use Rattle.line.specs.working.Tries.{Answers, failed, found, mended, Below, usable}
 use Rattle.line.proofs.Mending.{answer-mends}
 

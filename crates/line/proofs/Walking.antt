@@ -27,7 +27,7 @@ use Rattle.line.specs.Bounded.{bounded}
 use Rattle.line.specs.Decoding.{listTo, message, messages}
 use Rattle.line.specs.Clauses.{cost, clause, count}
 use Rattle.line.specs.working.Fillings.{Based, Masks, start}
-use Rattle.words.specs.working.Word.{width}
+use Rattle.line.specs.working.Word.{width}
 use Rattle.line.proofs.LineLaw.{listTo-is, listTo-cell, messages-line}
 
 -- a message is a cell

@@ -8,3 +8,4 @@ pub mod Settled
 pub mod Tables
 pub mod Tries
 pub mod Units
+pub mod Word

@@ -1,14 +1,14 @@
 // Bounded-distance decoding of a packed word.
-use crate::codeword::check_sums;
 use crate::tables::LineTables;
+use crate::word::Word;
+use crate::word::check_sums;
+use crate::word::flip_bit;
 use degree::Degree;
 use degree::order_of;
 use field::locate::Positions;
 use field::locate::locate;
 use field::locate::locate_single;
 use field::syndrome::Syndrome;
-use words::word::Word;
-use words::word::flip_bit;
 ghost use mathlib.Core.Path.{_≡_};
 ghost use mathlib.Core.Bool.{cond};
 ghost use mathlib.Core.List.{List};
@@ -19,7 +19,7 @@ ghost use Rattle.line.specs.working.Tables.{TablesOf};
 ghost use Rattle.line.specs.Cells.{flip};
 ghost use Rattle.line.specs.Bounded.{bounded};
 ghost use Rattle.line.specs.working.Packed.{PacksWord};
-ghost use Rattle.words.specs.working.Word.{value, width};
+ghost use Rattle.line.specs.working.Word.{value, width};
 ghost use lib.Dec.{eqb};
 ghost use Rattle.line.specs.working.Tries.{Answers, Below, mended, usable};
 

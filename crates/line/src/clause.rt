@@ -6,8 +6,8 @@ use crate::packed::count_differences;
 use crate::packed::full;
 use crate::packed::word_cell;
 use crate::side::Side;
+use crate::word::Word;
 use degree::Degree;
-use words::word::Word;
 ghost use mathlib.Core.Path.{_≡_};
 ghost use mathlib.Core.Bool.{_&&_, _||_, not, cond};
 ghost use mathlib.Core.List.{List};
@@ -18,7 +18,7 @@ ghost use Rattle.line.specs.working.Packed.{IsLine, PacksWord};
 ghost use Rattle.line.specs.Cells.{cell, filled, designedDistance, radius};
 ghost use Rattle.line.specs.Bounded.{bounded};
 ghost use Rattle.line.specs.Clauses.{firstFit, clause};
-ghost use Rattle.words.specs.working.Word.{value, width};
+ghost use Rattle.line.specs.working.Word.{value, width};
 ghost use Rattle.line.specs.working.Tries.{Answers};
 ghost use Rattle.line.specs.working.Fillings.{TrialOf, Sees, Based};
 

@@ -1,17 +1,17 @@
 // Encoding a line on packed words, by a fixed table of encoded units for each degree.
 use crate::packed::Line;
+use crate::word::Word;
+use crate::word::of_number;
+use crate::word::xor_where;
+use crate::word::zero_word;
 use degree::Degree;
 use words::copying::copy_words;
-use words::word::Word;
-use words::word::of_number;
-use words::word::xor_where;
-use words::word::zero_word;
 ghost use Rattle.degree.specs.Degree.{size};
 ghost use Rattle.line.specs.Cells.{IsWord};
 ghost use Rattle.line.specs.working.Packed.{PacksWord};
 ghost use Rattle.line.specs.Encoding.{messageSize, encodeLine};
 ghost use Rattle.line.specs.working.Units.{Units};
-ghost use Rattle.words.specs.working.Word.{value};
+ghost use Rattle.line.specs.working.Word.{value};
 
 // Entry a below k: the encoded line of the message whose one 1 is cell a; from k on 0.
 pub type UnitTable = [u64; 64];

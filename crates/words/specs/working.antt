@@ -2,4 +2,3 @@ pub mod Bytes
 pub mod Network
 pub mod Pairs
 pub mod Sums
-pub mod Word

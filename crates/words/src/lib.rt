@@ -1,6 +1,5 @@
-// Bits and bytes in machine words: operations of a word, transposing, copying, gathering and spreading of bytes, sums, a test for
-// 0. Nothing here knows of codes.
-pub mod word; // a word of bits; no other module looks inside
+// Bits and bytes in machine words: transposing, copying, gathering and spreading of bytes, sums, a test for 0. Nothing here knows of
+// codes.
 mod bytes; // eight bytes at a time, to a word and back
 pub mod pairs; // the two lowest bits of bytes, gathered in two words and spread again
 pub mod copying; // one slice into another of its length

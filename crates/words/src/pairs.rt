@@ -4,53 +4,45 @@ use crate::bytes::eight;
 use crate::bytes::gather;
 use crate::bytes::put_eight;
 use crate::bytes::spread;
-use crate::word::Word;
-use crate::word::above_byte;
-use crate::word::lowest_byte;
-use crate::word::with_byte;
-use crate::word::zero_word;
 ghost use mathlib.Core.Path.{_≡_};
 ghost use Prim.Native.Nat.{ℕ, _<_, _≤_, _%_};
 ghost use lib.ListN.{length, getD};
 ghost use Rattle.words.specs.working.Pairs.{bitsOf, pairsOf};
-ghost use Rattle.words.specs.working.Word.{value, width};
 
 pub struct WordPair {
-    pub low: Word,
-    pub high: Word,
+    pub low: u64,
+    pub high: u64,
 }
 
 // The two lowest bits of each byte.
 pub fn gather_pair(bytes: &[u8]) -> WordPair
-    requires { ⌜ (length (now bytes) ≤ width) × (length (now bytes) % 8 ≡ 0) × ((i : ℕ) → getD (now bytes) i 0 < 256) ⌝ }
-    ensures { λ r. ⌜ (value (r .low) ≡ bitsOf 0 (now (bytes .entry))) × (value (r .high) ≡ bitsOf 1 (now (bytes .entry))) ⌝ }
+    requires { ⌜ (length (now bytes) ≤ 64) × (length (now bytes) % 8 ≡ 0) × ((i : ℕ) → getD (now bytes) i 0 < 256) ⌝ }
+    ensures { λ r. ⌜ (r .low ≡ bitsOf 0 (now (bytes .entry))) × (r .high ≡ bitsOf 1 (now (bytes .entry))) ⌝ }
 {
-    let mut low = zero_word();
-    let mut high = zero_word();
+    let mut low: u64 = 0;
+    let mut high: u64 = 0;
     let mut at = 0;
     while at < bytes.len() {
         let x = eight(bytes, at);
-        low = with_byte(low, at, gather(x));
-        high = with_byte(high, at, gather(x >> 1));
+        low = low | (gather(x) << at);
+        high = high | (gather(x >> 1) << at);
         at += 8;
     }
     WordPair { low, high }
 }
 
 // And back: all bytes are written.
-pub fn spread_pair(low: Word, high: Word, bytes: &mut [u8])
+pub fn spread_pair(low: u64, high: u64, bytes: &mut [u8])
     requires { ⌜ length (now bytes) % 8 ≡ 0 ⌝ }
-    ensures { λ _. ⌜ now (bytes .exit) ≡ pairsOf (length (now (bytes .entry))) (value low) (value high) ⌝ }
+    ensures { λ _. ⌜ now (bytes .exit) ≡ pairsOf (length (now (bytes .entry))) low high ⌝ }
 {
     let mut a = low;
     let mut b = high;
     let mut at = 0;
     while at < bytes.len() {
-        let x = lowest_byte(a);
-        let y = lowest_byte(b);
-        put_eight(bytes, at, spread(x) + 2 * spread(y));
-        a = above_byte(a);
-        b = above_byte(b);
+        put_eight(bytes, at, spread(a % 256) + 2 * spread(b % 256));
+        a = a / 256;
+        b = b / 256;
         at += 8;
     }
 }

@@ -19,7 +19,7 @@ use Rattle.line.specs.Bounded.{Found, bounded}
 use Rattle.line.specs.Decoding.{decoded, message}
 use Rattle.line.specs.Clauses.{reach, same, answerCell, after, cost, clause}
 use Rattle.line.specs.working.Packed.{Packs, PacksWord}
-use Rattle.words.specs.working.Word.{value}
+use Rattle.line.specs.working.Word.{value}
 use Rattle.line.specs.working.Tries.{Answers}
 
 module _ (d : Degree) (ys rs : List ℕ) (f : ℕ) where

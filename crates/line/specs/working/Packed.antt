@@ -7,9 +7,9 @@ use lib.Dec.{eqb}
 use lib.ListN.{getD}
 use Rattle.line.specs.declared.side.Side.{Side}
 use Rattle.line.specs.declared.side.Side.the-variants.{One, Two}
-use Rattle.words.specs.declared.word.Word.{Word}
+use Rattle.line.specs.declared.word.Word.{Word}
 use Rattle.line.specs.declared.packed.Line.{Line}
-use Rattle.words.specs.working.Word.{value, width, noBits}
+use Rattle.line.specs.working.Word.{value, width, noCells}
 use Rattle.line.specs.Cells.{Cells, bit, isErased}
 
 -- a line of n cells, which are 0, 1 or 2
@@ -39,5 +39,5 @@ pub record Packs (n : ℕ) (cs : List ℕ) (l : Line) : Type 0 where
 
 -- word one and word two of a pair
 abbrev pub sideWord : Side → List Word → Word
-sideWord One pair = getD pair 0 noBits
-sideWord Two pair = getD pair 1 noBits
+sideWord One pair = getD pair 0 noCells
+sideWord Two pair = getD pair 1 noCells

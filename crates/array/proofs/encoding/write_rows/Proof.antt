@@ -6,7 +6,6 @@ use native.Mathlib.Omega.{arith}
 use Rattle.laws.specs.Digits.{digits}
 use Rattle.words.specs.working.Pairs.{pairsOf}
 use Rattle.words.specs.working.Sums.{chosenSum}
-use Rattle.words.specs.working.Word.{value}
 use Rattle.words.proofs.PairLaws.{pairs-digits}
 use Rattle.line.proofs.Bounds.{square-le}
 use Rattle.laws.proofs.DigitSums.{digits-length}
@@ -15,31 +14,28 @@ use Rattle.array.proofs.encoding.write_rows.Statement.{statement}
 use Rattle.array.proofs.encoding.write_rows.Tie as tie
 
 abbrev Inv-loop : tie.InvT-loop
-Inv-loop n k units words cells₀ none i₀ at₀ cells i at = (value none ≡ 0) × Lining n (λ j. digits n (chosenSum units words k j)) n 0 cells₀ cells i at
+Inv-loop n k units words cells₀ i₀ at₀ cells i at = Lining n (λ j. digits n (chosenSum units words k j)) n 0 cells₀ cells i at
 
 abbrev μ-loop : tie.MeasureT-loop
-μ-loop n k units words cells₀ none i₀ at₀ cells i at = n - i
-
-zero-word-requires : tie.Need-zero-word-requires Inv-loop μ-loop
-zero-word-requires c κs = tt
+μ-loop n k units words cells₀ i₀ at₀ cells i at = n - i
 
 -- what is spread beside a word of 0 are the digits of the other
-written : {m n low high sum : ℕ} → m ≡ n → high ≡ 0 → low ≡ sum → pairsOf m low high ≡ digits n sum
-written {n} {sum} e z s = rw (e, z, s) (pairs-digits n sum)
+written : {m n low sum : ℕ} → m ≡ n → low ≡ sum → pairsOf m low 0 ≡ digits n sum
+written {n} {sum} e s = rw (e, s) (pairs-digits n sum)
 
 loop-holds : tie.Need-loop-holds Inv-loop μ-loop
-loop-holds c = (c .zero-word .ensures, lining-start (λ j z. digits-length _ _) (omega (arith, c .before .before .before .pre .4)))
+loop-holds c = lining-start (λ j z. digits-length _ _) (omega (arith, c .before .before .pre .4))
 
 add-end : tie.Need-add-end Inv-loop μ-loop
 add-end c =
-    omega (arith, lining-room (c .before .loop .inv .1) (c .loop-test .taken), square-le _ (c .before .before .before .before .before .pre .2))
+    omega (arith, lining-room (c .before .loop .inv) (c .loop-test .taken), square-le _ (c .before .before .before .before .pre .2))
 
 cast-chosen-sum : tie.Need-cast-chosen-sum Inv-loop μ-loop
-cast-chosen-sum c = omega (arith, c .before .before .before .before .before .pre .2)
+cast-chosen-sum c = omega (arith, c .before .before .before .before .pre .2)
 
 chosen-sum-requires : tie.Need-chosen-sum-requires Inv-loop μ-loop
 chosen-sum-requires c κs =
-    let p = c .before .before .before .before .before .pre in
+    let p = c .before .before .before .before .pre in
     (p .0, p .1, omega (arith, p .2))
 
 sub-spread-pair : tie.Need-sub-spread-pair Inv-loop μ-loop
@@ -49,12 +45,12 @@ part-spread-pair-start : tie.Need-part-spread-pair-start Inv-loop μ-loop
 part-spread-pair-start c = omega arith
 
 part-spread-pair-end : tie.Need-part-spread-pair-end Inv-loop μ-loop
-part-spread-pair-end c = lining-free (c .before .before .loop .inv .1) (c .before .loop-test .taken)
+part-spread-pair-end c = lining-free (c .before .before .loop .inv) (c .before .loop-test .taken)
 
 spread-pair-requires : tie.Need-spread-pair-requires Inv-loop μ-loop
 spread-pair-requires c κs =
     let q = c .before .before .before in
-    omega (arith, lining-part (q .loop .inv .1) (c .before .before .loop-test .taken), q .before .before .before .before .pre .3)
+    omega (arith, lining-part (q .loop .inv) (c .before .before .loop-test .taken), q .before .before .before .pre .3)
 
 add-i : tie.Need-add-i Inv-loop μ-loop
 add-i c = omega arith
@@ -65,16 +61,15 @@ loop-less c = omega arith
 loop-again : tie.Need-loop-again Inv-loop μ-loop
 loop-again c =
     let q = c .before .before in
-    let l = q .before .before .before .before .loop in
-    let w = l .inv .1 in
+    let w = q .before .before .before .before .loop .inv in
     let h = q .before .before .before .loop-test .taken in
-    (l .inv .0, lining-put w h _ (q .spread-pair .ensures ∙ written (lining-part w h) (l .inv .0) (q .before .before .chosen-sum .ensures)))
+    lining-put w h _ (q .spread-pair .ensures ∙ written (lining-part w h) (q .before .before .chosen-sum .ensures))
 
 same-length : tie.Need-same-length Inv-loop μ-loop
-same-length c = lining-length (c .before .loop .inv .1)
+same-length c = lining-length (c .before .loop .inv)
 
 returns : tie.Need-returns Inv-loop μ-loop
-returns c = lining-all (c .before .loop .inv .1) (c .before .before .before .before .before .pre .4) (c .loop-test .left)
+returns c = lining-all (c .before .loop .inv) (c .before .before .before .before .pre .4) (c .loop-test .left)
 
 pub write-rows-spec : {M : Type 1} → statement M
 write-rows-spec =
@@ -82,7 +77,6 @@ write-rows-spec =
     (tie.spec
     Inv-loop
     μ-loop
-    zero-word-requires
     loop-holds
     add-end
     cast-chosen-sum

@@ -1,7 +1,7 @@
 -- `packing::line_in` meets its contract: the two words of line i pack row i.
 -- Assumes nothing.
 use mathlib.Core.Path.{ap, _∙_}
-use Rattle.words.specs.working.Word.{value}
+use Rattle.line.specs.working.Word.{value}
 use Rattle.array.proofs.PackedLaws.{held-line}
 use borrow.Author.Needs.{needs}
 use Rattle.array.proofs.packing.line_in.Statement.{statement}

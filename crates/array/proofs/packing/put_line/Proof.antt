@@ -1,7 +1,7 @@
 -- `packing::put_line` meets its contract: the two words of line i are those of the line.
 -- Assumes nothing.
 use mathlib.Core.Path.{ap, _∙_}
-use Rattle.words.specs.working.Word.{value}
+use Rattle.line.specs.working.Word.{value}
 use Rattle.array.proofs.PackedLaws.{held-put}
 use borrow.Author.Needs.{needs}
 use Rattle.array.proofs.packing.put_line.Statement.{statement}

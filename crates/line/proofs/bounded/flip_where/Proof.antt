@@ -1,7 +1,6 @@
 -- `line::bounded::flip_where` meets its contract: by cases of the test.
 -- Assumes nothing.
 use borrow.Author.Needs.{needs}
-use Rattle.line.proofs.Packing.{flip-packed}
 use Rattle.line.proofs.bounded.flip_where.Statement.{statement}
 use Rattle.line.proofs.bounded.flip_where.Tie as tie
 
@@ -9,7 +8,7 @@ flip-bit-requires : tie.Need-flip-bit-requires
 flip-bit-requires c κs = search needs
 
 returns : tie.Need-returns
-returns c = λ n ws p h. rw (c .before .if1 .taken) (flip-packed _ (c .flip-bit .ensures) p h)
+returns c = λ n ws p h. rw (c .before .if1 .taken) (c .flip-bit .ensures n ws p h)
 
 returns-2 : tie.Need-returns-2
 returns-2 c = λ n ws p h. rw (c .if1 .left) p

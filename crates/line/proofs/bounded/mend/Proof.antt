@@ -7,7 +7,6 @@ use borrow.Author.Needs.{needs}
 use Rattle.degree.specs.Degree.{size}
 use Rattle.field.proofs.Primitive.{primitive}
 use Rattle.line.specs.working.Tries.{Below, failed}
-use Rattle.line.proofs.Packing.{flip-packed}
 use Rattle.line.proofs.Tries.{last-below, zero-mended, one-mended, two-mended}
 use Rattle.line.proofs.bounded.mend.Statement.{statement}
 use Rattle.line.proofs.bounded.mend.Tie as tie
@@ -65,7 +64,7 @@ returns-2 c =
     let h = subst (Below (size (s .args .d))) (w .given .1) (s .pre) in
     λ ws p.
     let q = rw last at (c .before .flip-where2 .ensures (size (s .args .d)) ws p (rw last (last-below (s .args .d)))) in
-    rw (w .given .1) (one-mended (s .args .d) ws (w .given .0 .0) (eqb (s .args .parity) 0) refl (flip-packed _ (c .flip-bit .ensures) q h))
+    rw (w .given .1) (one-mended (s .args .d) ws (w .given .0 .0) (eqb (s .args .parity) 0) refl (c .flip-bit .ensures (size (s .args .d)) _ q h))
 
 returns-3 : tie.Need-returns-3
 returns-3 c =
@@ -73,8 +72,8 @@ returns-3 c =
     let w = c .before .before .before .wrong2 in
     let h = subst (Below (size (s .args .d))) (w .given .1) (s .pre) in
     λ ws p.
-    let q = flip-packed _ (c .before .flip-bit2 .ensures) p (h .1) in
-    rw (w .given .1) (two-mended (s .args .d) ws (w .given .0 .0) (w .given .0 .1 .0) (eqb (s .args .parity) 0) refl (flip-packed _ (c .flip-bit3 .ensures) q (h .0)))
+    let q = c .before .flip-bit2 .ensures (size (s .args .d)) ws p (h .1) in
+    rw (w .given .1) (two-mended (s .args .d) ws (w .given .0 .0) (w .given .0 .1 .0) (eqb (s .args .parity) 0) refl (c .flip-bit3 .ensures (size (s .args .d)) _ q (h .0)))
 
 returns-4 : tie.Need-returns-4
 returns-4 c = λ ws p. rw (c .enum-told2 .given .1) (failed refl)

@@ -8,7 +8,7 @@ use Rattle.degree.specs.Degree.{size}
 use Rattle.line.specs.Cells.{cell, filled}
 use Rattle.line.specs.Decoding.{replaced}
 use Rattle.line.specs.working.Packed.{PacksWord}
-use Rattle.words.specs.working.Word.{value}
+use Rattle.line.specs.working.Word.{value}
 use Rattle.line.proofs.Reaching.{channel-bit, reach-at, value-at, same-at}
 use Rattle.line.proofs.clause.seen_at.Statement.{statement}
 use Rattle.line.proofs.clause.seen_at.Tie as tie

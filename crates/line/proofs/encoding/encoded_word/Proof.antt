@@ -8,7 +8,7 @@ use lib.Bits.{bitXor}
 use lib.Dec.{eqb}
 use lib.ListN.{length, getD, take}
 use Rattle.laws.specs.Digits.{sumOver}
-use Rattle.words.specs.working.Word.{value}
+use Rattle.line.specs.working.Word.{value}
 use Rattle.line.proofs.Bounds.{message-le}
 use Rattle.line.proofs.UnitLaws.{sum-next, sum-encodes}
 use Rattle.line.proofs.encoding.encoded_word.Statement.{statement}

@@ -5,7 +5,7 @@ use mathlib.Core.Bool.{true≢false}
 use native.Mathlib.Omega.{arith}
 use borrow.Author.Needs.{needs}
 use Rattle.degree.specs.Degree.{size}
-use Rattle.words.specs.working.Word.{value}
+use Rattle.line.specs.working.Word.{value}
 use Rattle.line.proofs.Choosing.{is-few, is-many}
 use Rattle.line.proofs.Starting.{many-start}
 use Rattle.line.proofs.messages.base_of.Statement.{statement}

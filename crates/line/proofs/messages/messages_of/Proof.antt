@@ -9,7 +9,7 @@ use borrow.Author.Needs.{needs}
 use Rattle.laws.proofs.Masks.{sumMask, mask-le}
 use Rattle.degree.specs.Degree.{size}
 use Rattle.line.specs.working.Fillings.{Based}
-use Rattle.words.specs.working.Word.{value, width}
+use Rattle.line.specs.working.Word.{value, width}
 use Rattle.line.proofs.Walking.{Walk, walk-start, walk-turn, walk-end, some-left, none-left, mask-next}
 use Rattle.line.proofs.messages.messages_of.Statement.{statement}
 use Rattle.line.proofs.messages.messages_of.Tie as tie

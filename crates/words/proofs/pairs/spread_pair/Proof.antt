@@ -7,32 +7,22 @@ use native.Mathlib.Omega.{arith}
 use native.Mathlib.Nat.{sub-zero}
 use lib.ListN.{length, take}
 use lib.Seq.{take-all}
-use borrow.Author.Needs.{needs}
-use Rattle.laws.specs.Digits.{digits}
-use Rattle.words.specs.working.Word.{value}
-use Rattle.words.specs.working.Bytes.{joined}
 use Rattle.words.specs.working.Pairs.{pairsOf}
 use Rattle.words.proofs.PairLaws.{spread-turn, put-pairs}
 use Rattle.words.proofs.pairs.spread_pair.Statement.{statement}
 use Rattle.words.proofs.pairs.spread_pair.Tie as tie
 
 abbrev Inv-loop : tie.InvT-loop
-Inv-loop bytes₀ a₀ b₀ at₀ bytes a b at =
-    (at ≤ length bytes) × (at % 8 ≡ 0) × (length bytes ≡ length bytes₀) × (take at bytes ++ pairsOf (length bytes₀ - at) (value a) (value b) ≡ pairsOf (length bytes₀) (value a₀) (value b₀))
+Inv-loop low high bytes₀ a₀ b₀ at₀ bytes a b at =
+    (at ≤ length bytes) × (at % 8 ≡ 0) × (length bytes ≡ length bytes₀) × (take at bytes ++ pairsOf (length bytes₀ - at) a b ≡ pairsOf (length bytes₀) low high)
 
 abbrev μ-loop : tie.MeasureT-loop
-μ-loop bytes₀ a₀ b₀ at₀ bytes a b at = length bytes - at
+μ-loop low high bytes₀ a₀ b₀ at₀ bytes a b at = length bytes - at
 
 loop-holds : tie.Need-loop-holds Inv-loop μ-loop
 loop-holds c =
     let s = c .before .args in
-    (omega arith, refl, refl, ap (λ (k : ℕ). pairsOf k (value (s .low)) (value (s .high))) (sub-zero _))
-
-lowest-byte-requires : tie.Need-lowest-byte-requires Inv-loop μ-loop
-lowest-byte-requires c κs = tt
-
-lowest-byte-requires-2 : tie.Need-lowest-byte-requires-2 Inv-loop μ-loop
-lowest-byte-requires-2 c κs = tt
+    (omega arith, refl, refl, ap (λ (k : ℕ). pairsOf k (s .low) (s .high)) (sub-zero _))
 
 spread-requires : tie.Need-spread-requires Inv-loop μ-loop
 spread-requires c κs = omega arith
@@ -49,37 +39,29 @@ add-put-eight c = omega arith
 put-eight-requires : tie.Need-put-eight-requires Inv-loop μ-loop
 put-eight-requires c κs = omega arith
 
-above-byte-requires : tie.Need-above-byte-requires Inv-loop μ-loop
-above-byte-requires c κs = tt
-
-above-byte-requires-2 : tie.Need-above-byte-requires-2 Inv-loop μ-loop
-above-byte-requires-2 c κs = tt
-
 add-at : tie.Need-add-at Inv-loop μ-loop
 add-at c = omega arith
 
 loop-less : tie.Need-loop-less Inv-loop μ-loop
-loop-less c = omega (arith, c .before .before .before .before .put-eight .kept .0)
+loop-less c = omega (arith, c .before .before .put-eight .kept .0)
 
 loop-again : tie.Need-loop-again Inv-loop μ-loop
 loop-again c =
-    let p = c .before .before .before .before .put-eight in
-    let k = c .before .before .before .before .before .before .before .before .before in
-    let l = k .before .before .loop in
-    let n = length (k .before .before .before .before .args .bytes .now) in
+    let p = c .before .before .put-eight in
+    let y = c .before .before .before .spread2 .ensures .0 in
+    let x = c .before .before .before .before .spread .ensures .0 in
+    let l = c .before .before .before .before .before .before .before .loop in
+    let n = length (c .before .before .before .before .before .before .before .before .before .args .bytes .now) in
     let room : l .at + 8 ≤ length (l .bytes) = omega arith in
-    let byte : ℕ → ℕ = λ v. joined (digits 8 v) in
-    let x = c .before .before .before .before .before .before .spread .ensures .0 ∙ ap byte (k .lowest-byte .ensures) in
-    let y = c .before .before .before .before .before .spread2 .ensures .0 ∙ ap byte (c .before .before .before .before .before .before .before .before .lowest-byte2 .ensures) in
-    let e = put-pairs (l .bytes) (p .last .0) (l .at) (value (l .a)) (value (l .b)) x y (p .ensures) in (
+    let e = put-pairs (l .bytes) (p .last .0) (l .at) (l .a) (l .b) x y (p .ensures) in (
       omega (arith, p .kept .0),
       omega arith,
       p .kept .0 ∙ l .inv .2,
-      rw (e, c .before .above-byte .ensures, c .above-byte2 .ensures) (spread-turn (l .bytes) n (l .at) (value (l .a)) (value (l .b)) room (l .inv .2) ∙ l .inv .3),
+      rw e (spread-turn (l .bytes) n (l .at) (l .a) (l .b) room (l .inv .2) ∙ l .inv .3),
     )
 
 same-length : tie.Need-same-length Inv-loop μ-loop
-same-length c = search needs
+same-length c = c .before .loop .inv .2
 
 returns : tie.Need-returns Inv-loop μ-loop
 unfolding pairsOf
@@ -91,4 +73,19 @@ returns c =
     sym (take-all (l .at) (l .bytes) all) ∙ sym (append-nil (take (l .at) (l .bytes))) ∙ rw none at (l .inv .3)
 
 pub spread-pair-spec : {M : Type 1} → statement M
-spread-pair-spec = tie.close (tie.spec Inv-loop μ-loop loop-holds lowest-byte-requires lowest-byte-requires-2 spread-requires spread-requires-2 mul-put-eight add-put-eight put-eight-requires above-byte-requires above-byte-requires-2 add-at loop-less loop-again same-length returns)
+spread-pair-spec =
+    tie.close
+    (tie.spec
+    Inv-loop
+    μ-loop
+    loop-holds
+    spread-requires
+    spread-requires-2
+    mul-put-eight
+    add-put-eight
+    put-eight-requires
+    add-at
+    loop-less
+    loop-again
+    same-length
+    returns)

@@ -1,51 +1,41 @@
 -- `words::sums::chosen_sum` meets its contract. The loop's invariant: the sum is that of the first a words.
 -- Assumes nothing.
+use mathlib.Core.Path.{_≡_, refl}
 use Prim.Native.Nat.{_-_, _≤_}
-use mathlib.Core.Path.{_≡_}
 use native.Mathlib.Omega.{arith}
 use Rattle.laws.specs.working.Sums.{xorTo}
-use Rattle.words.specs.working.Word.{value}
 use Rattle.words.specs.working.Sums.{chosenSum}
 use Rattle.words.proofs.SumLaws.{chosen-next, chosen-all}
 use Rattle.words.proofs.sums.chosen_sum.Statement.{statement}
 use Rattle.words.proofs.sums.chosen_sum.Tie as tie
 
 abbrev Inv-loop : tie.InvT-loop
-Inv-loop k table words i sum₀ a₀ sum a = (a ≤ k) × (value sum ≡ chosenSum table words a i)
+Inv-loop k table words i sum₀ a₀ sum a = (a ≤ k) × (sum ≡ chosenSum table words a i)
 
 abbrev μ-loop : tie.MeasureT-loop
 μ-loop k table words i sum₀ a₀ sum a = k - a
 
-zero-word-requires : tie.Need-zero-word-requires Inv-loop μ-loop
-zero-word-requires c κs = tt
-
 loop-holds : tie.Need-loop-holds Inv-loop μ-loop
 unfolding chosenSum xorTo
-loop-holds c = (omega arith, c .zero-word .ensures)
+loop-holds c = (omega arith, refl)
 
-mul-of-number : tie.Need-mul-of-number Inv-loop μ-loop
-mul-of-number c = omega arith
+mul-bit : tie.Need-mul-bit Inv-loop μ-loop
+mul-bit c = omega arith
 
-element-copy-out-of-number : tie.Need-element-copy-out-of-number Inv-loop μ-loop
-element-copy-out-of-number c = omega arith
+element-copy-out-bit : tie.Need-element-copy-out-bit Inv-loop μ-loop
+element-copy-out-bit c = omega arith
 
-of-number-requires : tie.Need-of-number-requires Inv-loop μ-loop
-of-number-requires c κs = tt
+shr-bit : tie.Need-shr-bit Inv-loop μ-loop
+shr-bit c = omega arith
 
-bit-at-requires : tie.Need-bit-at-requires Inv-loop μ-loop
-bit-at-requires c κs = omega arith
+mul-sum-where : tie.Need-mul-sum-where Inv-loop μ-loop
+mul-sum-where c = omega arith
 
-mul-of-number-2 : tie.Need-mul-of-number-2 Inv-loop μ-loop
-mul-of-number-2 c = omega arith
+shared-slice-read-sum-where : tie.Need-shared-slice-read-sum-where Inv-loop μ-loop
+shared-slice-read-sum-where c = omega arith
 
-shared-slice-read-of-number : tie.Need-shared-slice-read-of-number Inv-loop μ-loop
-shared-slice-read-of-number c = omega arith
-
-of-number-requires-2 : tie.Need-of-number-requires-2 Inv-loop μ-loop
-of-number-requires-2 c κs = tt
-
-xor-where-requires : tie.Need-xor-where-requires Inv-loop μ-loop
-xor-where-requires c κs = tt
+sum-where-requires : tie.Need-sum-where-requires Inv-loop μ-loop
+sum-where-requires c κs = tt
 
 add-a : tie.Need-add-a Inv-loop μ-loop
 add-a c = omega arith
@@ -54,12 +44,7 @@ loop-less : tie.Need-loop-less Inv-loop μ-loop
 loop-less c = omega arith
 
 loop-again : tie.Need-loop-again Inv-loop μ-loop
-loop-again c =
-    let q = c .before .before .before in
-    let l = q .before .before .before .before .loop in (
-      omega arith,
-      chosen-next _ _ _ _ (l .a) (l .inv .1) (q .before .of-number .ensures) (q .bit-at .ensures) (c .before .of-number2 .ensures) (c .xor-where .ensures),
-    )
+loop-again c = let l = c .before .before .before .before .loop in (omega arith, chosen-next _ _ _ _ (l .a) (l .inv .1) refl refl refl (c .sum-where .ensures))
 
 returns : tie.Need-returns Inv-loop μ-loop
 returns c =
@@ -72,16 +57,13 @@ chosen-sum-spec =
     (tie.spec
     Inv-loop
     μ-loop
-    zero-word-requires
     loop-holds
-    mul-of-number
-    element-copy-out-of-number
-    of-number-requires
-    bit-at-requires
-    mul-of-number-2
-    shared-slice-read-of-number
-    of-number-requires-2
-    xor-where-requires
+    mul-bit
+    element-copy-out-bit
+    shr-bit
+    mul-sum-where
+    shared-slice-read-sum-where
+    sum-where-requires
     add-a
     loop-less
     loop-again
