@@ -52,9 +52,9 @@
 extern "C" {
 #endif
 
-/* The version of this header: 1000000 times the first number, 1000 times the second, and the third. It is 0.1.0. The first grows
+/* The version of this header: 1000000 times the first number, 1000 times the second, and the third. It is 1.0.0. The first grows
  * where a call changes: a program is to compare it with pugdrel_version() where header and library may come apart. */
-#define PUGDREL_VERSION 1000
+#define PUGDREL_VERSION 1000000
 
 /* The version of the library. */
 PUGDREL_NODISCARD
@@ -135,15 +135,22 @@ PUGDREL_NODISCARD
 uint64_t pugdrel_row(uint64_t degree, const uint8_t *cells, size_t cells_len, size_t index, uint64_t *report,
                      size_t report_len);
 
-/* ---- One word or line of n cells. The report of each is one number. */
+/* ---- One word or line of n cells. */
 
-/* Bounded-distance decoding, in place: the one codeword within 2 of a full word. report[0] is 1 where there is one; else it is 0
- * and the word stays as it is. Refusals: 1, 3, 4. */
+/* The report of pugdrel_bounded_distance. */
+enum pugdrel_word_report {
+    PUGDREL_FOUND = 0,   /* 1 where there is a codeword within 2, else 0 */
+    PUGDREL_CHANGED = 1, /* how many cells were changed: 0, 1 or 2, and 0 where none was found */
+    PUGDREL_WORD_REPORT = 2
+};
+
+/* Bounded-distance decoding, in place: the one codeword within 2 of a full word; where there is none the word stays as it is.
+ * report: 2 numbers, found and changed. Refusals: 1, 3, 4. */
 PUGDREL_NODISCARD
 uint64_t pugdrel_bounded_distance(uint64_t degree, uint8_t *word, size_t word_len, uint64_t *report, size_t report_len);
 
-/* Decoding of a line with unsure cells, in place. report[0] is 1 where it succeeds; else it is 0 and the line stays as it is.
- * Refusals: 1, 3, 4. */
+/* Decoding of a line with unsure cells, in place. report: 1 number, which is 1 where it succeeds; else it is 0 and the line stays
+ * as it is. Refusals: 1, 3, 4. */
 PUGDREL_NODISCARD
 uint64_t pugdrel_decode_line(uint64_t degree, uint8_t *cells, size_t cells_len, uint64_t filling, uint64_t *report,
                              size_t report_len);

@@ -70,7 +70,7 @@ fn good_call(entry: Entry, random: &mut Random) -> Call {
         }
         Entry::BoundedDistance => {
             call.output = word(code, random);
-            call.report = random.words(1);
+            call.report = random.words(2);
         }
         Entry::DecodeLine => {
             call.output = damage::line(code, random);

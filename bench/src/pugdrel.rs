@@ -108,11 +108,13 @@ pub fn row(degree: u64, cells: &[u8], index: usize) -> Result<&[u8], Refusal> {
     Ok(&cells[start..start + length])
 }
 
-/// Replaces a full word by the codeword within 2 of it; false, and the word as it came, if there is none.
-pub fn bounded_distance(degree: u64, word: &mut [u8]) -> Result<bool, Refusal> {
-    let mut report = [0; 1];
+/// Replaces a full word by the codeword within 2 of it, and tells how many cells that changed; none, and the word as it came,
+/// if there is no such codeword.
+pub fn bounded_distance(degree: u64, word: &mut [u8]) -> Result<Option<u64>, Refusal> {
+    let mut report = [0; 2];
     Refusal::test(entries::bounded_distance(degree, word, &mut report))?;
-    Ok(report != [0])
+    let [found, changed] = report;
+    Ok((found != 0).then_some(changed))
 }
 
 /// Decodes one line with unsure cells in place; false, and the line as it came, if that fails.
@@ -231,7 +233,7 @@ pub mod entries {
         }
     }
 
-    /// Reports 1 if there is a codeword.
+    /// Reports 1 if there is a codeword, and the number of cells changed.
     pub fn bounded_distance(degree: u64, word: &mut [u8], report: &mut [u64]) -> u64 {
         // SAFETY: as in `decode`.
         unsafe {

@@ -89,8 +89,14 @@ fn a_message_goes_there_and_back() {
         let mut back = vec![9; k * k];
         pugdrel::extract(degree, &cells, &mut back).unwrap();
         assert_eq!(back, message);
-        assert!(pugdrel::bounded_distance(degree, &mut cells[..n]).unwrap());
-        assert_eq!(cells, sent);
+        for wrong in [&[][..], &[3], &[n - 1], &[3, n - 1], &[0, 3]] {
+            for &place in wrong {
+                cells[place] ^= 1;
+            }
+            let changed = pugdrel::bounded_distance(degree, &mut cells[..n]).unwrap();
+            assert_eq!(changed, Some(wrong.len() as u64));
+            assert_eq!(cells, sent);
+        }
     }
 }
 

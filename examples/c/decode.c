@@ -153,13 +153,13 @@ static int is_line(const uint8_t *line, const char *text)
     return memcmp(line, other, sizeof other) == 0;
 }
 
-static void word_gives(const char *word, uint64_t found, const char *after)
+static void word_gives(const char *word, uint64_t found, uint64_t changed, const char *after)
 {
     uint8_t line[PUGDREL_N4];
-    uint64_t report[1] = {7};
+    uint64_t report[PUGDREL_WORD_REPORT] = {7, 7};
     line_of(word, line);
-    check(pugdrel_bounded_distance(4, line, sizeof line, report, 1) == PUGDREL_OK, word);
-    check(report[0] == found && is_line(line, after), word);
+    check(pugdrel_bounded_distance(4, line, sizeof line, report, PUGDREL_WORD_REPORT) == PUGDREL_OK, word);
+    check(report[PUGDREL_FOUND] == found && report[PUGDREL_CHANGED] == changed && is_line(line, after), word);
 }
 
 static void line_gives(const char *text, uint64_t word, uint64_t found, const char *after)
@@ -186,9 +186,12 @@ static void lines(void)
 {
     uint8_t word[PUGDREL_N4], channel[PUGDREL_N4];
     uint64_t report[2] = {7, 7};
-    word_gives("1000100000000000", 1, ZERO);
-    word_gives("1000101000000000", 0, "1000101000000000");
-    word_gives(G, 1, G);
+    word_gives("1000100000000000", 1, 2, ZERO);
+    word_gives("1000000000000000", 1, 1, ZERO);
+    word_gives("0000000000000001", 1, 1, ZERO); /* the last cell alone */
+    word_gives("1000000000000001", 1, 2, ZERO); /* one cell, and the last */
+    word_gives("1000101000000000", 0, 0, "1000101000000000");
+    word_gives(G, 1, 0, G);
     line_gives("?000?0???0000000", 0, 1, ZERO);
     line_gives("?000?0???0000001", 0, 1, G);
     line_gives("100010??00000000", 0xc0, 1, G);
@@ -196,11 +199,11 @@ static void lines(void)
     messages_give("1000100000000000", "1000101000000000", "0000001000000000", 2);
     messages_give("1000101000000000", "100010?000000000", "1000100000000000", 3);
     line_of("1000100000000000", word);
-    check(pugdrel_bounded_distance(4, word, sizeof word, report, 2) == PUGDREL_BAD_LENGTH && report[0] == 7, "a report of 2");
+    check(pugdrel_bounded_distance(4, word, sizeof word, report, 1) == PUGDREL_BAD_LENGTH && report[0] == 7, "a report of 1");
     check(is_line(word, "1000100000000000"), "a refused word stays");
     word[3] = 2;
-    check(pugdrel_bounded_distance(4, word, sizeof word, report, 1) == PUGDREL_BAD_CELL, "an unsure cell in a word");
-    check(report[0] == 0, "is told as not found");
+    check(pugdrel_bounded_distance(4, word, sizeof word, report, 2) == PUGDREL_BAD_CELL, "an unsure cell in a word");
+    check(report[0] == 0 && report[1] == 0, "is told as not found and not changed");
     check(pugdrel_decode_line(6, word, sizeof word, 0, report, 1) == PUGDREL_BAD_LENGTH, "a line of another degree");
     line_of(ZERO, channel);
     check(pugdrel_messages(7, word, sizeof word, channel, sizeof channel, 0, cells, 16, report, 1) == PUGDREL_BAD_DEGREE, "degree 7");

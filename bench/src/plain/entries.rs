@@ -92,15 +92,20 @@ pub fn row(degree: u64, cells: &[u8], index: usize, report: &mut [u64]) -> u64 {
     answered(answer, report)
 }
 
-/// Reports whether there is a codeword within 2, and leaves it in the word.
+/// Reports whether there is a codeword within 2 and how many cells it changes, and leaves it in the word.
 pub fn bounded_distance(degree: u64, word: &mut [u8], report: &mut [u64]) -> u64 {
     let tests = || {
         let code = code_of(degree)?;
-        test_lengths(&[(word.len(), code.n()), (report.len(), 1)])?;
+        test_lengths(&[(word.len(), code.n()), (report.len(), 2)])?;
         test_cells(word, 1)?;
         Ok(code)
     };
-    let answer = tests().map(|code| found(code.bounded_distance(word), word));
+    let answer = tests().map(|code| {
+        let before = word.to_vec();
+        let [is_found] = found(code.bounded_distance(word), word);
+        let changed = before.iter().zip(&*word).filter(|(old, new)| old != new);
+        [is_found, changed.count() as u64]
+    });
     answered(answer, report)
 }
 

@@ -14,6 +14,7 @@ use damage::lines::damaged_by;
 use damage::lines::hit_some;
 use line::entry::LineAnswer;
 use line::entry::MessagesAnswer;
+use line::entry::WordAnswer;
 use second::arrays::Cells;
 use second::arrays::area_of;
 use second::arrays::columns_of;
@@ -27,6 +28,7 @@ use second::codewords::weights_of;
 use second::encoding::encode_line;
 use second::encoding::extract;
 use second::encoding::message_area;
+use second::lines::differences;
 use second::lines::messages;
 use second::tallies::BOUNDED_DISTANCE;
 use second::tallies::CLAUSES;
@@ -127,13 +129,76 @@ fn note_decoded(own: Attempt, given: Line, found: u64, tally: &mut Totals) {
     tick_if(tally, OWN, own.found);
 }
 
+// Found with so many cells changed, as 1 to 3; not found, as 0; 9 where the call was refused or tells a number that can't be.
+fn changed_of(answer: WordAnswer) -> u64 {
+    match answer {
+        WordAnswer::Refused(_) => 9,
+        WordAnswer::Failed => 0,
+        WordAnswer::Found(changed) => { if changed > 2 { 9 } else { changed + 1 } }
+    }
+}
+
+// The same of the second implementation.
+fn own_changed(n: usize, own: Attempt, word: Line) -> u64
+    requires { ⌜ n ≤ 64 ⌝ }
+{
+    let line = own.line;
+    if own.found {
+        differences(n, word, line) + 1
+    } else {
+        0
+    }
+}
+
+// How many are found, and with how many cells changed.
+fn note_bounded(own: Attempt, number: u64, given: Line, told: u64, tally: &mut Totals) {
+    let line = own.line;
+    note_line(tally, &line, &given, told == number, number);
+    tick_if(tally, OWN, own.found);
+    tick_if(tally, OWN + 1, number == 1);
+    tick_if(tally, OWN + 2, number == 2);
+    tick_if(tally, OWN + 3, number == 3);
+}
+
 fn test_bounded(n: usize, weights: &Weights, word: Line, tally: &mut Totals)
     requires { ⌜ n ≤ 64 ⌝ }
 {
     let own = bounded_distance(n, weights, word);
     let mut given = word;
     let answer = line::entry::bounded_distance(degree_of(n), &mut given[..n]);
-    note_decoded(own, given, found_of(answer), tally);
+    note_bounded(
+        own,
+        own_changed(n, own, word),
+        given,
+        changed_of(answer),
+        tally,
+    );
+}
+
+// How many pairs the first two check sums can be.
+fn pairs_of(n: usize) -> u64 {
+    if n == 16 { 256 } else { 4096 }
+}
+
+// A word with an even number of ones, which has the digits of x in its first cells and 0 in all others but the last.
+fn word_of_digits(n: usize, x: u64) -> Line
+    requires { ⌜ (13 < n) × (n ≤ 64) ⌝ }
+{
+    let mut word = [0u8; 64];
+    for i in 0..12 {
+        word[i] = ((x >> i) % 2) as u8;
+    }
+    word[n - 1] = (u64::count_ones(x) % 2) as u8;
+    word
+}
+
+// A word for each pair: the first cells, as many as check sums have digits, can have every pair, and each once.
+fn test_check_sums(n: usize, weights: &Weights, tally: &mut Totals)
+    requires { ⌜ (13 < n) × (n ≤ 64) ⌝ }
+{
+    for x in 0..pairs_of(n) {
+        test_bounded(n, weights, word_of_digits(n, x), tally);
+    }
 }
 
 fn test_decode(n: usize, weights: &Weights, line: Line, filling: u64, tally: &mut Totals)
@@ -463,6 +528,18 @@ fn run_lines(entry: usize, n: usize, weights: &Weights, many: usize, line: &[u8]
     }
 }
 
+fn run_check_sums(n: usize, weights: &Weights)
+    requires { ⌜ (13 < n) × (n ≤ 64) ⌝ }
+{
+    let mut tally = [0u64; 32];
+    test_check_sums(n, weights, &mut tally);
+    say(
+        b"all check sums: # words, # agree, # differ, sum #; # found, # with no cell changed, # with one, # with two\n",
+        &tally,
+        0,
+    );
+}
+
 fn run_decoding(n: usize, weights: &Weights, many: usize)
     requires { ⌜ (13 < n) × (n ≤ 64) ⌝ }
 {
@@ -493,8 +570,9 @@ fn run_line_entries(n: usize, weights: &Weights, many: usize)
         n,
         weights,
         many,
-        b"bounded distance: # words, # agree, # differ, sum #; # found\n",
+        b"bounded distance: # words, # agree, # differ, sum #; # found, # with no cell changed, # with one, # with two\n",
     );
+    run_check_sums(n, weights);
     run_lines(
         DECODE_LINE,
         n,

@@ -4,7 +4,8 @@ use crate::refusals::decode_test;
 use crate::report::Report;
 use line::refusals::Call;
 use line::refusals::Refusal;
-use line::tables::line_tables;
+use line::tables::LINE_ENTRIES;
+use line::tables::put_line_tables;
 ghost use mathlib.Core.List.{[]};
 ghost use Rattle.array.specs.Entries.{DecodeDone};
 
@@ -26,7 +27,8 @@ pub fn decode(
     let call = decode_test(degree, iterations, received, filling, cells);
     match call {
         Call::Taken(d) => {
-            let tables = line_tables(d);
+            let mut tables = [0u16; LINE_ENTRIES];
+            put_line_tables(d, &mut tables);
             let report = decode_taken(d, iterations as usize, received, filling, cells, &tables);
             DecodeAnswer::Decoded(report)
         }

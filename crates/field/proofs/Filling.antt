@@ -16,8 +16,8 @@ use Rattle.degree.specs.declared.Degree.{Degree}
 use Rattle.degree.specs.Degree.{size, order}
 use Rattle.field.specs.Field.{timesPower, power}
 use Rattle.laws.specs.Digits.{sumOver, digits}
-use Rattle.field.specs.working.Tables.{Powers, Weights, Logs, Tables, weight}
-use Rattle.field.specs.working.Building.{Doubled, Block, Summed}
+use Rattle.field.specs.working.Tables.{Powers, Weights, Logs, Sums, Placed, Tables, weight}
+use Rattle.field.specs.working.Building.{Doubled, Block, Summed, Copied}
 use Rattle.field.proofs.Doubling.{times-add}
 use Rattle.field.proofs.Primitive.{primitive}
 use Rattle.laws.proofs.DigitSums.{sum-cong, digits-length, sum-digits-zero, sum-top}
@@ -61,7 +61,7 @@ module _ (d : Degree) where
   }
 
   -- the last cell counts for the parity alone
-  pub weights-done : (t : List ℕ) → length t ≡ 2176 → WeightsTo d (order d) t → Weights d (set t (order d) 16384)
+  pub weights-done : (t : List ℕ) → length t ≡ 6272 → WeightsTo d (order d) t → Weights d (set t (order d) 16384)
   weights-done t l w k h =
       dite (decLt k (order d)) (λ s. getD-set-other t (order d) k 16384 0 (λ z. omega arith) ∙ w .below k s)
       (λ s. dite (decLt (order d) k)
@@ -189,14 +189,38 @@ summed-next j a t u l h b = record {
   kept = λ i hi. b .kept i (omega arith) ∙ h .kept i hi;
 }
 
--- all tables stand
-pub tables-done : (d : Degree) (a t : List ℕ) → length t ≡ 2176 → Weights d a → Logs d a → Summed 8 a t → Tables d t
-tables-done d a t l w g s = record {
-  long = l;
-  weights = λ i h. s .kept i (omega arith) ∙ w i h;
-  logs = λ i h. s .kept (64 + power d i) (omega (arith, power-small d i)) ∙ g i h;
-  sums = λ j x hj hx.
+-- all tables that are made of the powers stand
+pub sums-done : (d : Degree) (a t : List ℕ) → Weights d a → Logs d a → Summed 8 a t → Weights d t × Logs d t × Sums d 8 t
+sums-done d a t w g s = (
+  λ i h. s .kept i (omega arith) ∙ w i h,
+  λ i h. s .kept (64 + power d i) (omega (arith, power-small d i)) ∙ g i h,
+  λ j x hj hx.
       s .made j x hj hx
       ∙ sum-cong (λ i. getD a (j * 8 + i) 0) (λ i. weight d (j * 8 + i)) (digits 8 x)
-      (λ i hi. w (j * 8 + i) (omega (arith, digits-length 8 x)));
+      (λ i hi. w (j * 8 + i) (omega (arith, digits-length 8 x))),
+)
+
+-- ---- the table of places behind them
+
+-- nothing is copied yet
+pub copied-start : (at : ℕ) (from a : List ℕ) → Copied at 0 from a a
+copied-start at from a = record { made = λ x h. absurd (omega arith); kept = λ i h. refl }
+
+-- one entry more
+pub copied-next : (at k : ℕ) (from a b : List ℕ) → at + k < length b → Copied at k from a b → Copied at (k + 1) from a (set b (at + k) (getD from k 0))
+copied-next at k from a b l c = record {
+  made = λ x hx. dite (decLt x k)
+      (λ s. getD-set-other b (at + k) (at + x) _ 0 (λ z. omega arith) ∙ c .made x s)
+      (λ s. let z : x ≡ k = omega arith in rw z (getD-set-same b (at + k) _ 0 l));
+  kept = λ i hi. getD-set-other b (at + k) i _ 0 (λ z. omega arith) ∙ c .kept i hi;
+}
+
+-- entries behind them change none of the tables
+pub tables-kept : (d : Degree) (a t : List ℕ) → Weights d a × Logs d a × Sums d 8 a → ((i : ℕ) → i < 2176 → getD t i 0 ≡ getD a i 0) → length t ≡ 6272 → Placed d t → Tables d t
+tables-kept d a t w k l p = record {
+  long = l;
+  weights = λ i h. k i (omega arith) ∙ w .0 i h;
+  logs = λ i h. k (64 + power d i) (omega (arith, power-small d i)) ∙ w .1 i h;
+  sums = λ j x hj hx. k (128 + j * 256 + x) (omega arith) ∙ w .2 j x hj hx;
+  places = p;
 }

@@ -9,3 +9,4 @@ mod Filling
 mod Reading
 pub mod Locating
 mod Search
+mod PlaceTable

@@ -1,4 +1,4 @@
-// The error positions that fit two check sums: none or one are read off the tables, two are searched.
+// The error positions that fit two check sums: by a search for two, and at degree 6 by a fixed table.
 use crate::element::log_of;
 use crate::tables::FieldTables;
 use degree::Degree;
@@ -6,9 +6,11 @@ use degree::order_of;
 ghost use mathlib.Core.Path.{_≡_};
 ghost use mathlib.Core.Logic.{_≢_};
 ghost use Prim.Native.Nat.{ℕ, _+_, _*_, _<_};
+ghost use lib.Dec.{eqb};
 ghost use Rattle.degree.specs.Degree.{size, order};
-ghost use Rattle.field.specs.working.Positions.{located, atMostOne};
+ghost use Rattle.field.specs.working.Positions.{located, atMostOne, usable};
 ghost use Rattle.field.specs.working.Fitting.{Second};
+ghost use Rattle.field.specs.working.Places.{positionsOf, Low};
 ghost use Rattle.field.specs.working.Tables.{Tables};
 
 // Cells below n - 1 that are wrong.
@@ -91,6 +93,41 @@ pub fn locate(d: Degree, s1: u16, s3: u16, tables: &FieldTables) -> Positions
             Positions::One(_) => single,
             Positions::Two(_, _) => single,
             Positions::Unfit => locate_pair(d, s1, s3, tables),
+        }
+    }
+}
+
+// The entry that stands for positions.
+fn entry_of(positions: Positions) -> u16
+    requires { ⌜ Low positions ⌝ }
+    ensures { λ r. ⌜ (r < 16384) × (positionsOf r ≡ positions) ⌝ }
+{
+    match positions {
+        Positions::Zero => 0,
+        Positions::One(only) => 4096 + only as u16,
+        Positions::Two(low, high) => 8192 + low as u16 + 64 * (high as u16),
+        Positions::Unfit => 12288,
+    }
+}
+
+// The positions that fit two check sums, as an entry: at degree 6 read off the table, at another degree by a search. Two wrong
+// positions make an even word; of an odd word, in which the last cell is wrong too, they can't be mended, and no time is spent on a
+// search for them.
+pub fn place_of(d: Degree, s1: u16, s3: u16, parity: u16, tables: &FieldTables) -> u16
+    requires { ⌜ (s1 < size d) × (s3 < size d) × Tables d (now tables) ⌝ }
+    ensures { λ r. ⌜ (r < 16384) × (usable (eqb parity 0) (positionsOf r) ≡ usable (eqb parity 0) (located d s1 s3)) ⌝ }
+{
+    match d {
+        Degree::Four => {
+            if parity == 0 {
+                entry_of(locate(d, s1, s3, tables))
+            } else {
+                entry_of(locate_single(d, s1, s3, tables))
+            }
+        }
+        Degree::Six => {
+            let at = 2176 + (64 * (s1 as usize) + s3 as usize);
+            tables[at]
         }
     }
 }

@@ -1,4 +1,5 @@
 // The powers of α, and the tables that are made of them: once for a decoding, then lent to the functions that read them.
+use crate::places::put_places;
 use degree::Degree;
 use degree::order_of;
 ghost use mathlib.Core.Path.{_≡_};
@@ -6,11 +7,14 @@ ghost use Prim.Native.Nat.{ℕ, _+_, _*_, _<_, _≤_};
 ghost use lib.ListN.{length, getD};
 ghost use Rattle.degree.specs.Degree.{order};
 ghost use Rattle.field.specs.Field.{power};
-ghost use Rattle.field.specs.working.Tables.{Powers, Weights, Logs, Tables};
+ghost use Rattle.field.specs.working.Tables.{Powers, Weights, Logs, Sums, Tables};
 ghost use Rattle.field.specs.working.Building.{Doubled, Block, Summed};
 
-// The tables of a degree in one array: 64 weights, 64 logarithms, and 8 blocks of 256 sums of weights.
-pub type FieldTables = [u16; 2176];
+// The tables of a degree in one array: 64 weights, 64 logarithms, 8 blocks of 256 sums of weights, and 4096 entries that have the error
+// positions of degree 6.
+pub type FieldTables = [u16; FIELD_ENTRIES];
+
+pub const FIELD_ENTRIES: usize = 6272;
 
 // α^0 to α^(n - 2). Every other table is made of these.
 const POWERS_FOUR: [u16; 15] = [1, 2, 4, 8, 3, 6, 12, 11, 5, 10, 7, 14, 15, 13, 9];
@@ -92,7 +96,7 @@ pub fn reduced(d: Degree, k: usize) -> usize
 
 // Entry i, for each cell i of a word: its weight. The last cell counts for the parity alone.
 fn put_weights(d: Degree, powers: &[u16], table: &mut [u16])
-    requires { ⌜ Powers d (now powers) × (length (now table) ≡ 2176) × ((i : ℕ) → getD (now table) i 0 ≡ 0) ⌝ }
+    requires { ⌜ Powers d (now powers) × (length (now table) ≡ 6272) × ((i : ℕ) → getD (now table) i 0 ≡ 0) ⌝ }
     ensures { λ _. ⌜ Weights d (now (table .exit)) ⌝ }
 {
     let order = order_of(d);
@@ -108,7 +112,7 @@ fn put_weights(d: Degree, powers: &[u16], table: &mut [u16])
 
 // Entry 64 + α^i: the number i.
 fn put_logs(d: Degree, powers: &[u16], table: &mut [u16])
-    requires { ⌜ Powers d (now powers) × (length (now table) ≡ 2176) × Weights d (now table) ⌝ }
+    requires { ⌜ Powers d (now powers) × (length (now table) ≡ 6272) × Weights d (now table) ⌝ }
     ensures { λ _. ⌜ Weights d (now (table .exit)) × Logs d (now (table .exit)) ⌝ }
 {
     let order = order_of(d);
@@ -149,7 +153,7 @@ fn put_block(table: &mut [u16], base: usize, first: usize)
 
 // Block j, for the cells from 8 j on, stands from entry 128 + 256 j on.
 fn put_sums(table: &mut [u16])
-    requires { ⌜ length (now table) ≡ 2176 ⌝ }
+    requires { ⌜ length (now table) ≡ 6272 ⌝ }
     ensures { λ _. ⌜ Summed 8 (now (table .entry)) (now (table .exit)) ⌝ }
 {
     let mut j = 0;
@@ -159,30 +163,30 @@ fn put_sums(table: &mut [u16])
     }
 }
 
-// All tables, from the powers.
+// All tables that are made of the powers.
 fn fill_tables(d: Degree, powers: &[u16], table: &mut [u16])
-    requires { ⌜ Powers d (now powers) × (length (now table) ≡ 2176) × ((i : ℕ) → getD (now table) i 0 ≡ 0) ⌝ }
-    ensures { λ _. ⌜ Tables d (now (table .exit)) ⌝ }
+    requires { ⌜ Powers d (now powers) × (length (now table) ≡ 6272) × ((i : ℕ) → getD (now table) i 0 ≡ 0) ⌝ }
+    ensures { λ _. ⌜ Weights d (now (table .exit)) × Logs d (now (table .exit)) × Sums d 8 (now (table .exit)) ⌝ }
 {
     put_weights(d, powers, table);
     put_logs(d, powers, table);
     put_sums(table);
 }
 
-// The tables of a degree. Each arm makes its own short table of powers, so that no table is chosen by value.
-pub fn make_tables(d: Degree) -> FieldTables
-    ensures { λ r. ⌜ Tables d r ⌝ }
+// The tables of a degree, into entries that are 0. Each arm makes its own short table of powers, so that no table is chosen by value.
+pub fn put_tables(d: Degree, table: &mut FieldTables)
+    requires { ⌜ ((i : ℕ) → getD (now table) i 0 ≡ 0) ⌝ }
+    ensures { λ _. ⌜ Tables d (now (table .exit)) ⌝ }
 {
-    let mut table = [0; 2176];
     match d {
         Degree::Four => {
             let powers = POWERS_FOUR;
-            fill_tables(d, &powers, &mut table);
+            fill_tables(d, &powers, table);
         }
         Degree::Six => {
             let powers = POWERS_SIX;
-            fill_tables(d, &powers, &mut table);
+            fill_tables(d, &powers, table);
+            put_places(table);
         }
     }
-    table
 }

@@ -193,18 +193,20 @@ distance-length [] e = omega arith
 distance-length (c ∷ cs) [] = omega arith
 distance-length (c ∷ cs) (e ∷ es) = omega (arith, distance-length cs es, differs-le c e)
 
--- a flip is at most one further off
-pub distance-flip : {n : ℕ} (c w : List ℕ) (i : ℕ) → length c ≡ n → IsWord n w → i < n
-    → distance c (flip i w) ≤ suc (distance c w)
+-- a flip where two words have the same cell takes them one further apart
+pub distance-flip : {n : ℕ} (c w : List ℕ) (i : ℕ) → length c ≡ n → IsWord n w → i < n → cell c i ≡ cell w i
+    → distance c (flip i w) ≡ suc (distance c w)
 unfolding distance flip
-distance-flip c w i e l h = go c w i (rw e (l .long)) (rw (l .long) h)
+distance-flip c w i e l h = go c w i (rw e (l .long)) (l .small) (rw (l .long) h)
   where
-    go : (c w : List ℕ) (i : ℕ) → length w ≡ length c → i < length w
-        → distance c (set w i (1 - cell w i)) ≤ suc (distance c w)
-    go c [] i e h = absurd (not-suc-le-zero h)
-    go [] (b ∷ bs) i e h = absurd (omega arith)
-    go (c ∷ cs) (b ∷ bs) zero e h = omega (arith, differs-le c (1 - b))
-    go (c ∷ cs) (b ∷ bs) (suc i) e h = omega (arith, go cs bs i (suc-inj e) (le-of-suc-le-suc h))
+    go : (c w : List ℕ) (i : ℕ) → length w ≡ length c → Bits w → i < length w → cell c i ≡ cell w i
+        → distance c (set w i (1 - cell w i)) ≡ suc (distance c w)
+    go c [] i e s h q = absurd (not-suc-le-zero h)
+    go [] (b ∷ bs) i e s h q = absurd (omega arith)
+    go (c ∷ cs) (b ∷ bs) zero e s h q =
+        let k = s 0 in
+        omega (arith, differs-equal {b = c} {c = b} q, differs-other {b = c} {c = 1 - b} (omega arith) (λ z. omega arith))
+    go (c ∷ cs) (b ∷ bs) (suc i) e s h q = omega (arith, go cs bs i (suc-inj e) (λ i. s (suc i)) (le-of-suc-le-suc h) q)
 
 cell-triangle : (y c e : ℕ) → differs c e ≤ differs y c + differs y e + bit (isErased y)
 cell-triangle y c e = go (isErased y) (eqb y c) refl (eqb y e) refl

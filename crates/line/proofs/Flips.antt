@@ -15,7 +15,8 @@ use Rattle.field.specs.declared.locate.Positions.the-variants.{Zero, One, Two, 
 use Rattle.field.specs.working.Positions.{total}
 use Rattle.laws.specs.Digits.{sumOver, ones}
 use Rattle.field.specs.working.Fitting.{Within}
-use Rattle.line.specs.Cells.{IsWord, distance, flip}
+use lib.Seq.{getD-set-other}
+use Rattle.line.specs.Cells.{IsWord, cell, distance, flip}
 use Rattle.line.specs.working.OneCell.{differs}
 use Rattle.line.proofs.CellLaws.{Bits, differs-equal, differs-other, flip-word, distance-self, distance-flip}
 use Rattle.line.proofs.SumLaws.{sum-flip, ones-flip, take-flip}
@@ -187,13 +188,28 @@ flipped-word (One i) l = flip-word i l
 flipped-word (Two i j) l = flip-word i (flip-word j l)
 flipped-word Unfit l = l
 
--- it is within 2
+-- a word differs from itself with cells flipped in just those cells
+pub flipped-far : {n : ℕ} (w : List ℕ) (p : Positions) → IsWord n w → Within n p → distance w (flipped p w) ≡ many p
+unfolding flip
+flipped-far w Zero l h = distance-self w
+flipped-far w (One i) l h = distance-flip w w i (l .long) l h refl ∙ ap suc (distance-self w)
+flipped-far w (Two i j) l h =
+    distance-flip w (flip j w) i (l .long) (flip-word j l) (omega arith) (sym (other j i (λ z. omega arith)))
+    ∙ ap suc (distance-flip w w j (l .long) l (h .1) refl ∙ ap suc (distance-self w))
+  where
+    other : (j i : ℕ) → (i ≡ j → ⊥) → cell (flip j w) i ≡ cell w i
+    other j i = getD-set-other w j i (1 - cell w j) 0
+flipped-far w Unfit l h = absurd h
+
+-- at most two
 pub flipped-near : {n : ℕ} (w : List ℕ) (p : Positions) → IsWord n w → Within n p → distance w (flipped p w) ≤ 2
-flipped-near w Zero l h = omega (arith, distance-self w)
-flipped-near w (One i) l h = omega (arith, distance-self w, distance-flip w w i (l .long) l h)
-flipped-near w (Two i j) l h =
-    omega (arith, distance-self w, distance-flip w w j (l .long) l (h .1), distance-flip w (flip j w) i (l .long) (flip-word j l) (omega arith))
-flipped-near w Unfit l h = absurd h
+flipped-near w p l h = rw (flipped-far w p l h) (few p)
+  where
+    few : (p : Positions) → many p ≤ 2
+    few Zero = omega arith
+    few (One i) = omega arith
+    few (Two i j) = omega arith
+    few Unfit = omega arith
 
 -- the positions' sum is added to the word's sum
 pub flipped-sum : (f : ℕ → ℕ) {n : ℕ} (w : List ℕ) (p : Positions) → IsWord n w → Within n p

@@ -6,6 +6,7 @@ mod SumLaws
 mod Flips
 mod Decoders
 pub mod Distances
+pub mod Changes
 mod Mending
 pub mod LineLaw
 mod Choosing

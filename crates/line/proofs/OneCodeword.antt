@@ -4,13 +4,14 @@ use mathlib.Core.Path.{_≡_, refl, sym, ap, ap₂, _∙_}
 use mathlib.Core.Bool.{Bool, true, false, cond, _&&_, _||_, not, true≢false, or-true}
 use mathlib.Core.Logic.{_⊎_, inl, inr}
 use mathlib.Core.List.{List}
-use Prim.Native.Nat.{ℕ, _+_, _<_}
+use Prim.Native.Nat.{ℕ, _+_, _-_, _<_}
 use native.Mathlib.Omega.{arith}
 use native.Mathlib.Decide.{ℕ-discrete}
 use native.Mathlib.Nat.{lt-of-le-of-lt}
 use lib.Bits.{bitAnd, bitOr, bitXor, and-le-l}
 use lib.Dec.{eqb, ltb}
-use borrow.Author.Tests.{eqb-true}
+use borrow.Author.Tests.{eqb-true, ne-eqb}
+use lib.Pow.{pow-pos}
 use Rattle.laws.specs.Bits.{bit}
 use Rattle.laws.specs.working.Bits.{bitAt}
 use Rattle.laws.proofs.Xor.{bit-ind}
@@ -64,7 +65,11 @@ stays-at h k em ev ew z =
     let whole = ew ∙ ap₂ (λ (m v : ℕ). bitXor m (bitAnd m v)) em ev in
     let e = xor-at (bitXor a c) (bitAnd (bitXor a c) (bitXor o a)) k
     ∙ ap₂ bitXor (xor-at a c k) (and-at (bitXor a c) (bitXor o a) k ∙ ap₂ bitAnd (xor-at a c k) (xor-at o a k)) in
-    ap (λ (x : Bool). ltb (h .far) radius || x) (stays-bit (bit-at-lt a k) (bit-at-lt c k) (bit-at-lt o k) (sym e ∙ sym (ap (λ (x : ℕ). bitAt x k) whole) ∙ z)) ∙ or-true (ltb (h .far) radius)
+    ap (λ (x : Bool). ltb (h .tried .changed) radius || x) (stays-bit (bit-at-lt a k) (bit-at-lt c k) (bit-at-lt o k) (sym e ∙ sym (ap (λ (x : ℕ). bitAt x k) whole) ∙ z)) ∙ or-true (ltb (h .tried .changed) radius)
+
+-- a codeword nearer than the radius stays in reach at every cell
+stays-near : (h : Trial) (k : ℕ) → ltb (h .tried .changed) radius ≡ true → stays h k ≡ true
+stays-near h k g = rw g refl
 
 pub crowding-at : {n : ℕ} {rs : List ℕ} {r : Line} (k : ℕ) → Packs n rs r → bitAt (value (r .erased)) k ≡ 0 → isErased (cell rs k) ≡ false
 crowding-at {rs} {r} k q z = go (isErased (cell rs k)) (sym (rw (q .erased) (packBy-bit isErased refl rs k)) ∙ z)
@@ -106,7 +111,7 @@ module _ (d : Degree) (ys rs : List ℕ) (f : ℕ) {b : Base} (B : Based d ys rs
   agreed =
       let s = and-true (b .one .tried .found && b .two .tried .found) (eqb (value (b .one .tried .word)) (value (b .two .tried .word))) o in
       let t = and-true (b .one .tried .found) (b .two .tried .found) (s .0) in
-      agree (B .one e .tried) (B .two e .tried) (t .0) (t .1) (eqb-true (value (b .one .tried .word)) (value (b .two .tried .word)) (s .1))
+      agree (B .one e .tried .answer) (B .two e .tried .answer) (t .0) (t .1) (eqb-true (value (b .one .tried .word)) (value (b .two .tried .word)) (s .1))
 
   in-reach : (k : ℕ) → k < size d → (s : Side) (h : Trial) → TrialOf d ys rs f s h → h .tried .found ≡ true → stays h k ≡ true → reach (bounded d) ys rs f k s ≡ true
   in-reach k hk s h H g t =
@@ -138,6 +143,13 @@ module _ (d : Degree) (ys rs : List ℕ) (f : ℕ) {b : Base} (B : Based d ys rs
           both-clause k (in-reach k hk One (b .one) (B .one e) (s .0) g) (in-reach k hk Two (b .two) (B .two e) (s .1) h)
           ∙ reach-clause d ys rs f k (p .cells) (q .cells) hk e z (rw (← B .erased) l) in
           rw (clause-settles d ys rs f k (p .cells) (q .cells) hk, ← c) (own-cell k agreed, refl)
+
+  -- where nothing takes it out of reach of either, and no cell is crowded, it is the message of every cell
+  pub quiet-mask : b .erased < designedDistance - 1 → ltb (b .one .tried .changed) radius ≡ true → ltb (b .two .tried .changed) radius ≡ true → Masks d ys rs f 0
+  quiet-mask l g h = record {
+    small = pow-pos (size d);
+    rest = λ k hk z. own-message k hk (stays-near (b .one) k g) (stays-near (b .two) k h) (ap (λ (x : Bool). x && eqb (cell rs k) 2) (ne-eqb (b .erased + 1) designedDistance (λ z. omega arith)));
+  }
 
   -- so the mask of the cells at which it does not
   pub own-mask : (a l m c : ℕ) → Masks d ys rs f a → ((k : ℕ) → bitAt l k ≡ 0 → stays (b .one) k ≡ true) → ((k : ℕ) → bitAt m k ≡ 0 → stays (b .two) k ≡ true)

@@ -1,17 +1,18 @@
 -- Packed lines: what the functions on them lean on.
 -- Assumes nothing.
 use mathlib.Core.Path.{_≡_, refl, sym, ap, ap₂, _∙_}
-use mathlib.Core.Bool.{Bool, true, false}
+use mathlib.Core.Bool.{Bool, true, false, cond}
 use mathlib.Core.List.{List, [], _∷_}
-use Prim.Native.Nat.{ℕ, suc, _+_, _-_, _*_, _/_, _%_, _^_, _<_, _≤_}
+use Prim.Native.Nat.{ℕ, zero, suc, _+_, _-_, _*_, _/_, _%_, _^_, _<_, _≤_}
+use native.Mathlib.Nat.{zero-mul}
 use native.Mathlib.Omega.{arith}
-use lib.Bits.{bitAnd, bitOr, bitXor, xor-self, and-le-l}
+use lib.Bits.{bitAnd, bitOr, bitXor, xor-self, xor-zero-r, and-le-l}
 use lib.Count.{ones}
+use lib.Dec.{eqb}
 use lib.ListN.{length, set}
-use lib.Pow.{shl-exact}
 use Rattle.laws.specs.Bits.{bit}
 use Rattle.laws.specs.working.Bits.{xorb}
-use Rattle.laws.proofs.Xor.{bit-ind}
+use Rattle.laws.proofs.Xor.{bit-ind, xors}
 use Rattle.laws.proofs.Bits.{bit-one, xor-bit, low-bit, half-bit}
 use Rattle.words.specs.working.Pairs.{bitsOf, pairsOf}
 use Rattle.line.specs.declared.side.Side.the-variants.{One, Two}
@@ -98,19 +99,35 @@ no-differences {l} {w} p q e =
     let zero : ones (bitAnd (bitXor w (value (l .ones))) known) ≡ 0 = rw (none, left) refl in
     sym zero ∙ differences-of p q
 
--- a cell of a packed word flipped
-pub flip-packed : {n : ℕ} {ws : List ℕ} {w : ℕ} (k : ℕ) → PacksWord n ws w → k < n → PacksWord n (flip k ws) (bitXor w (1 * 2 ^ k % 2 ^ 64))
+-- a cell of a packed word flipped, where x is 1
+pub flip-packed : {n : ℕ} {ws : List ℕ} {v w x : ℕ} (k : ℕ) → x < 2 → v ≡ bitXor w (x * 2 ^ k) → PacksWord n ws w → (x ≡ 1 → k < n)
+    → PacksWord n (cond (eqb x 1) (flip k ws) ws) v
 unfolding flip
-flip-packed {n} {ws} {w} k p h =
-    let m : k < length ws = rw (p .cells .long) h in
-    let one : 1 * 2 ^ k % 2 ^ 64 ≡ bit true * 2 ^ k = shl-exact 1 k 64 (omega arith) (omega (arith, p .room)) in
-    let turned : xorb (isOne (cell ws k)) (isOne (1 - cell ws k)) ≡ true =
-    bit-ind (λ (c : ℕ). xorb (isOne c) (isOne (1 - c)) ≡ true) refl refl (p .cells .small k) in
-    record {
-      room = p .room;
-      cells = set-cells k (1 - cell ws k) (omega arith) (p .cells);
-      ones = ap₂ bitXor (p .ones) (one ∙ ap (λ (b : Bool). bit b * 2 ^ k) (sym turned)) ∙ packBy-set isOne ws k (1 - cell ws k) m;
-    }
+flip-packed {n} {ws} {v} {w} {x} k b e p h = go x b e h
+  where
+    go : (x : ℕ) → x < 2 → v ≡ bitXor w (x * 2 ^ k) → (x ≡ 1 → k < n) → PacksWord n (cond (eqb x 1) (flip k ws) ws) v
+    go zero b e h = packed-as (e ∙ ap (bitXor w) (zero-mul (2 ^ k)) ∙ xor-zero-r w) p
+    go (suc zero) b e h =
+        let m : k < length ws = rw (p .cells .long) (h refl) in
+        let turned : xorb (isOne (cell ws k)) (isOne (1 - cell ws k)) ≡ true =
+        bit-ind (λ (c : ℕ). xorb (isOne c) (isOne (1 - c)) ≡ true) refl refl (p .cells .small k) in
+        record {
+          room = p .room;
+          cells = set-cells k (1 - cell ws k) (omega arith) (p .cells);
+          ones = e ∙ ap₂ bitXor (p .ones) (ap (λ (b : Bool). bit b * 2 ^ k) (sym turned)) ∙ packBy-set isOne ws k (1 - cell ws k) m;
+        }
+    go (suc (suc x)) b e h = absurd (omega arith)
+
+-- three cells flipped, each where its bit is 1, by flips that are joined first
+pub flips-packed : {n : ℕ} {ws : List ℕ} {v w x y z : ℕ} (i j k : ℕ) → x < 2 → y < 2 → z < 2
+    → v ≡ bitXor w (bitXor (x * 2 ^ i) (bitXor (y * 2 ^ j) (z * 2 ^ k))) → PacksWord n ws w → (z ≡ 1 → k < n) → (y ≡ 1 → j < n) → (x ≡ 1 → i < n)
+    → PacksWord n (cond (eqb x 1) (flip i (cond (eqb y 1) (flip j (cond (eqb z 1) (flip k ws) ws)) (cond (eqb z 1) (flip k ws) ws))) (cond (eqb y 1) (flip j (cond (eqb z 1) (flip k ws) ws)) (cond (eqb z 1) (flip k ws) ws))) v
+flips-packed {w} {x} {y} {z} i j k hx hy hz e p pz py px =
+    let a = x * 2 ^ i in
+    let b = y * 2 ^ j in
+    let c = z * 2 ^ k in
+    let one-by-one : bitXor w (bitXor a (bitXor b c)) ≡ bitXor (bitXor (bitXor w c) b) a = simp xors in
+    flip-packed i hx (e ∙ one-by-one) (flip-packed j hy refl (flip-packed k hz refl p pz) py) px
 
 -- ---- cells in bytes
 

@@ -90,8 +90,8 @@ module _ {d : Degree} {ys rs : List ℕ} {f k : ℕ} {b : Base} (hk : k < size d
   tried-at e h s g = subst (Answers (size d) (bounded d (filled s ys f))) (sym g) (go s)
     where
       go : (s : Side) → Answers (size d) (bounded d (filled s ys f)) (triedOf b s)
-      go One = B .one (few-of e h) .tried
-      go Two = B .two (few-of e h) .tried
+      go One = B .one (few-of e h) .tried .answer
+      go Two = B .two (few-of e h) .tried .answer
 
   -- a cell that is decoded afresh has 5 erasures in its line
   pub fresh-few : Afresh ≡ clause (bounded d) ys rs f k → few (replaced ys rs k) ≡ true

@@ -1,12 +1,12 @@
 -- Bounded-distance decoding in packed words: from the located positions and the parity to the answer.
 -- Assumes nothing.
 use mathlib.Core.Path.{_≡_, refl, sym, ap, ap₂, _∙_, subst}
-use mathlib.Core.Bool.{Bool, true, false, cond, not}
+use mathlib.Core.Bool.{Bool, true, false, cond, true≢false}
 use mathlib.Core.Logic.{_≢_}
 use mathlib.Core.List.{List}
-use Prim.Native.Nat.{ℕ, _<_}
+use Prim.Native.Nat.{ℕ, zero, suc, _+_, _/_, _%_, _<_, _≤_}
 use native.Mathlib.Omega.{arith}
-use lib.Dec.{eqb}
+use lib.Dec.{eqb, leb}
 use Rattle.degree.specs.declared.Degree.{Degree}
 use Rattle.field.specs.declared.locate.Positions.{Positions}
 use Rattle.field.specs.declared.locate.Positions.the-variants.{Zero, One, Two, Unfit}
@@ -15,21 +15,24 @@ use Rattle.degree.specs.Degree.{size, order}
 use Rattle.field.specs.Syndrome.{s1, s3, parity}
 use Rattle.field.specs.working.Checks.{IsSyndrome}
 use Rattle.field.specs.working.Fitting.{Fits}
-use Rattle.field.specs.working.Positions.{located}
+use Rattle.field.specs.working.Places.{positionsOf}
+use Rattle.field.specs.working.Positions.{located, usable}
 use Rattle.field.proofs.Primitive.{primitive}
 use Rattle.field.proofs.Locating.{one≢unfit, two≢unfit, located-fits, located-none}
 use Rattle.line.specs.declared.bounded.Tried.{Tried}
-use Rattle.line.specs.Cells.{flip}
-use Rattle.line.specs.Bounded.{bounded}
+use Rattle.line.specs.Cells.{IsWord, flip}
+use Rattle.line.specs.Bounded.{bounded, changed}
 use Rattle.line.specs.working.Packed.{PacksWord}
 use Rattle.line.specs.working.Word.{value}
-use Rattle.line.specs.working.Tries.{Answers, failed, found, mended, Below, usable}
+use Rattle.line.specs.working.Tries.{failed, found, mended, changes, Below, Mends, Decodes}
+use Rattle.line.proofs.CellLaws.{distance-self}
+use Rattle.line.proofs.Flips.{flipped-far}
 use Rattle.line.proofs.Mending.{answer-mends}
 
 pub last-below : (d : Degree) → order d < size d
 last-below d = omega (arith, primitive d .more)
 
--- located positions are cells, and so are those that are of use
+-- located positions are cells
 located-below : (d : Degree) (a b : ℕ) → Below (size d) (located d a b)
 located-below d a b = go (located d a b) (located-fits d a b)
   where
@@ -39,8 +42,10 @@ located-below d a b = go (located d a b) (located-fits d a b)
     go (Two i j) f = let w = f two≢unfit .within in (omega (arith, last-below d), omega (arith, last-below d))
     go Unfit f = tt
 
-pub usable-below : (d : Degree) (a b : ℕ) (even : Bool) (p : Positions) → p ≡ usable even (located d a b) → Below (size d) p
-usable-below d a b even p e = subst (Below (size d)) (sym e) (go even (located d a b) (located-below d a b))
+-- and so are the positions of an entry that can be of use where those of the located ones are
+pub usable-below : (d : Degree) (a b e : ℕ) (even : Bool) → usable even (positionsOf e) ≡ usable even (located d a b)
+    → Below (size d) (usable even (positionsOf e))
+usable-below d a b e even h = subst (Below (size d)) (sym h) (go even (located d a b) (located-below d a b))
   where
     go : (even : Bool) (p : Positions) → Below (size d) p → Below (size d) (usable even p)
     go true p h = h
@@ -49,25 +54,87 @@ usable-below d a b even p e = subst (Below (size d)) (sym e) (go even (located d
     go false (Two i j) h = tt
     go false Unfit h = tt
 
--- ---- a word mended, for each kind of positions
+-- ---- a word mended by an entry of places
 
-module _ (d : Degree) (ws : List ℕ) {t : Tried} where
-  pub zero-mended : (even : Bool) → t .found ≡ true → PacksWord (size d) (cond (not even) (flip (order d) ws) ws) (value (t .word)) → Answers (size d) (mended d ws Zero even) t
-  zero-mended true e p = found e p
-  zero-mended false e p = found e p
+module _ (d : Degree) (ws : List ℕ) where
+  -- three flips, each made or not, by the number of positions and the parity
+  abbrev flips : ℕ → ℕ → (i j : ℕ) → List ℕ
+  flips number parity i j =
+      let last = (number + parity) % 2 in
+      let a = cond (eqb last 1) (flip (order d) ws) ws in
+      let b = cond (eqb (number / 2 % 2) 1) (flip j a) a in
+      cond (eqb ((number + 1) / 2 % 2) 1) (flip i b) b
 
-  pub one-mended : (i : ℕ) (even : Bool) → t .found ≡ true → PacksWord (size d) (flip i (cond even (flip (order d) ws) ws)) (value (t .word))
-      → Answers (size d) (mended d ws (One i) even) t
-  one-mended i true e p = found e p
-  one-mended i false e p = found e p
+  pub answer-by : {t : Tried} (number parity i j : ℕ) → number < 4 → parity < 2
+      → t .found ≡ leb (number + (number + parity) % 2) 2 → t .changed ≡ number + (number + parity) % 2
+      → (t .found ≡ true → PacksWord (size d) (flips number parity i j) (value (t .word)))
+      → (p : Positions) → p ≡ cond (eqb number 0) Zero (cond (eqb number 1) (One i) (cond (eqb number 2) (Two i j) Unfit))
+      → Mends d ws p (eqb parity 0) t
+  answer-by number parity i j h k = go number h parity k
+    where
+      gone : (b : Bool) {m n : ℕ} → b ≡ false → b ≡ true → m ≡ n
+      gone b f z = absurd (true≢false (sym z ∙ f))
 
-  pub two-mended : (i j : ℕ) (even : Bool) → t .found ≡ even → PacksWord (size d) (flip i (flip j ws)) (value (t .word)) → Answers (size d) (mended d ws (Two i j) even) t
-  two-mended i j true e p = found e p
-  two-mended i j false e p = failed e
+      go : (number : ℕ) → number < 4 → (parity : ℕ) → parity < 2
+          → {t : Tried} → t .found ≡ leb (number + (number + parity) % 2) 2 → t .changed ≡ number + (number + parity) % 2
+          → (t .found ≡ true → PacksWord (size d) (flips number parity i j) (value (t .word)))
+          → (p : Positions) → p ≡ cond (eqb number 0) Zero (cond (eqb number 1) (One i) (cond (eqb number 2) (Two i j) Unfit))
+          → Mends d ws p (eqb parity 0) t
+      go zero h zero k f c q p e = rw e (record { answer = found f (q f); changed = λ _. c })
+      go zero h (suc zero) k f c q p e = rw e (record { answer = found f (q f); changed = λ _. c })
+      go zero h (suc (suc y)) k f c q p e = absurd (omega arith)
+      go (suc zero) h zero k f c q p e = rw e (record { answer = found f (q f); changed = λ _. c })
+      go (suc zero) h (suc zero) k f c q p e = rw e (record { answer = found f (q f); changed = λ _. c })
+      go (suc zero) h (suc (suc y)) k f c q p e = absurd (omega arith)
+      go (suc (suc zero)) h zero k f c q p e = rw e (record { answer = found f (q f); changed = λ _. c })
+      go (suc (suc zero)) h (suc zero) k f c q p e = rw e (record { answer = failed f; changed = gone _ f })
+      go (suc (suc zero)) h (suc (suc y)) k f c q p e = absurd (omega arith)
+      go (suc (suc (suc zero))) h zero k f c q p e = rw e (record { answer = failed f; changed = gone _ f })
+      go (suc (suc (suc zero))) h (suc zero) k f c q p e = rw e (record { answer = failed f; changed = gone _ f })
+      go (suc (suc (suc zero))) h (suc (suc y)) k f c q p e = absurd (omega arith)
+      go (suc (suc (suc (suc x)))) h y k f c q p e = absurd (omega arith)
+
+-- where a word is mended, the positions of its entry are cells: the first of one or two, and the second of two
+module _ (n e parity : ℕ) (small : parity < 2) (few : e / 4096 + (e / 4096 + parity) % 2 ≤ 2) (h : Below n (usable (eqb parity 0) (positionsOf e))) where
+  abbrev entry : ℕ → Positions
+  entry q = cond (eqb q 0) Zero (cond (eqb q 1) (One (e % 64)) (cond (eqb q 2) (Two (e % 64) (e / 64 % 64)) Unfit))
+
+  pub first-below : (e / 4096 + 1) / 2 % 2 ≡ 1 → e % 64 < n
+  first-below = go (e / 4096) parity small few h
+    where
+      go : (q p : ℕ) → p < 2 → q + (q + p) % 2 ≤ 2 → Below n (usable (eqb p 0) (entry q)) → (q + 1) / 2 % 2 ≡ 1 → e % 64 < n
+      go zero p o l b z = absurd (omega arith)
+      go (suc zero) zero o l b z = b
+      go (suc zero) (suc zero) o l b z = b
+      go (suc zero) (suc (suc p)) o l b z = absurd (omega arith)
+      go (suc (suc zero)) zero o l b z = b .0
+      go (suc (suc zero)) (suc p) o l b z = absurd (omega arith)
+      go (suc (suc (suc q))) p o l b z = absurd (omega arith)
+
+  pub second-below : e / 4096 / 2 % 2 ≡ 1 → e / 64 % 64 < n
+  second-below = go (e / 4096) parity small few h
+    where
+      go : (q p : ℕ) → p < 2 → q + (q + p) % 2 ≤ 2 → Below n (usable (eqb p 0) (entry q)) → q / 2 % 2 ≡ 1 → e / 64 % 64 < n
+      go zero p o l b z = absurd (omega arith)
+      go (suc zero) p o l b z = absurd (omega arith)
+      go (suc (suc zero)) zero o l b z = b .1
+      go (suc (suc zero)) (suc p) o l b z = absurd (omega arith)
+      go (suc (suc (suc q))) p o l b z = absurd (omega arith)
 
 -- ---- the word's own check sums
 
--- what is found is the same from the positions that are of use
+-- as many cells are changed as what is found differs from the word in
+changes-is : (d : Degree) (ws : List ℕ) (l : IsWord (size d) ws) {a b : ℕ} (p : Positions) (even : Bool) → (p ≢ Unfit → Fits d a b p)
+    → changes p even ≡ changed ws (mended d ws p even)
+changes-is d ws l Zero true f = sym (distance-self ws)
+changes-is d ws l Zero false f = sym (flipped-far ws (One (order d)) l (last-below d))
+changes-is d ws l (One i) true f = sym (flipped-far ws (Two i (order d)) l (f one≢unfit .within, last-below d))
+changes-is d ws l (One i) false f = let w = f one≢unfit .within in sym (flipped-far ws (One i) l (omega (arith, last-below d)))
+changes-is d ws l (Two i j) true f = let w = f two≢unfit .within in sym (flipped-far ws (Two i j) l (w .0, omega (arith, last-below d)))
+changes-is d ws l (Two i j) false f = refl
+changes-is d ws l Unfit even f = refl
+
+-- what is found, and how many cells are changed, is the same from the positions that can be of use
 usable-mended : (d : Degree) (ws : List ℕ) (even : Bool) (p : Positions) → mended d ws (usable even p) even ≡ mended d ws p even
 usable-mended d ws true p = refl
 usable-mended d ws false Zero = refl
@@ -75,11 +142,28 @@ usable-mended d ws false (One i) = refl
 usable-mended d ws false (Two i j) = refl
 usable-mended d ws false Unfit = refl
 
-pub tried-bounded : (d : Degree) {ws : List ℕ} {w : ℕ} {t : Tried} {s : Syndrome} {p : Positions} → PacksWord (size d) ws w → IsSyndrome d ws s
-    → p ≡ usable (eqb (s .parity) 0) (located d (s .s1) (s .s3)) → Answers (size d) (mended d ws p (eqb (s .parity) 0)) t → Answers (size d) (bounded d ws) t
-tried-bounded d {ws} {t} {s} {p} q sums e a =
-    let even = eqb (s .parity) 0 in
-    let l : located d (s .s1) (s .s3) ≡ located d (s1 d ws) (s3 d ws) = ap₂ (located d) (sums .s1) (sums .s3) in
-    let m : mended d ws p even ≡ mended d ws (located d (s1 d ws) (s3 d ws)) even =
-    ap (λ (k : Positions). mended d ws k even) e ∙ usable-mended d ws even (located d (s .s1) (s .s3)) ∙ ap (λ (k : Positions). mended d ws k even) l in
-    rw (answer-mends d ws (q .cells) (located d (s1 d ws) (s3 d ws)) (located-fits d (s1 d ws) (s3 d ws)) (located-none d (s1 d ws) (s3 d ws)), ← sums .parity, ← m) a
+usable-changes : (even : Bool) (p : Positions) → changes (usable even p) even ≡ changes p even
+usable-changes true p = refl
+usable-changes false Zero = refl
+usable-changes false (One i) = refl
+usable-changes false (Two i j) = refl
+usable-changes false Unfit = refl
+
+pub tried-bounded : (d : Degree) (e : ℕ) {ws : List ℕ} {w : ℕ} {t : Tried} {s : Syndrome} → PacksWord (size d) ws w → IsSyndrome d ws s
+    → usable (eqb (s .parity) 0) (positionsOf e) ≡ usable (eqb (s .parity) 0) (located d (s .s1) (s .s3))
+    → Mends d ws (positionsOf e) (eqb (s .parity) 0) t → Decodes d ws t
+tried-bounded d e {ws} {t} {s} q sums g a =
+    let p = located d (s1 d ws) (s3 d ws) in
+    let even = eqb (parity d ws) 0 in
+    let fits = located-fits d (s1 d ws) (s3 d ws) in
+    let l : usable even (positionsOf e) ≡ usable even p = rw (sums .parity, sums .s1, sums .s3) at g in
+    let m : Mends d ws (positionsOf e) even t = rw (sums .parity) at a in
+    let is : bounded d ws ≡ mended d ws p even = answer-mends d ws (q .cells) p fits (located-none d (s1 d ws) (s3 d ws)) in
+    let alike : mended d ws (positionsOf e) even ≡ bounded d ws =
+    sym (usable-mended d ws even (positionsOf e)) ∙ ap (λ (x : Positions). mended d ws x even) l ∙ usable-mended d ws even p ∙ sym is in
+    let number : changes (positionsOf e) even ≡ changes p even =
+    sym (usable-changes even (positionsOf e)) ∙ ap (λ (x : Positions). changes x even) l ∙ usable-changes even p in
+    record {
+      answer = rw (← alike) (m .answer);
+      changed = λ f. m .changed f ∙ number ∙ changes-is d ws (q .cells) p even fits ∙ ap (changed ws) (sym is);
+    }

@@ -6,7 +6,7 @@ use Prim.Native.Nat.{ℕ}
 use lib.ListN.{length}
 use Rattle.laws.specs.Searches.{firstOf}
 use Rattle.degree.specs.declared.Degree.{Degree}
-use Rattle.line.specs.Cells.{flip}
+use Rattle.line.specs.Cells.{distance, flip}
 use Rattle.line.specs.Codeword.{isCodeword}
 
 pub data Answer : Type 0 where
@@ -38,3 +38,8 @@ module _ (passes : List ℕ → Bool) where
 
 unfoldable pub bounded : Degree → List ℕ → Answer
 bounded d w = within2 (isCodeword d) w
+
+-- Document 02, W-202: "how many cells it changed: 0, 1 or 2, and 0 where it fails"
+abbrev pub changed : List ℕ → Answer → ℕ
+changed w (Found c) = distance w c
+changed w Failed = 0

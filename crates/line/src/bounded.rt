@@ -1,32 +1,31 @@
 // Bounded-distance decoding of a packed word.
+use crate::packed::Line;
 use crate::tables::LineTables;
 use crate::word::Word;
 use crate::word::check_sums;
-use crate::word::flip_bit;
+use crate::word::single;
+use crate::word::xor_words;
 use degree::Degree;
 use degree::order_of;
-use field::locate::Positions;
-use field::locate::locate;
-use field::locate::locate_single;
-use field::syndrome::Syndrome;
+use field::locate::place_of;
 ghost use mathlib.Core.Path.{_≡_};
-ghost use mathlib.Core.Bool.{cond};
 ghost use mathlib.Core.List.{List};
 ghost use Prim.Native.Nat.{ℕ, _+_, _<_};
-ghost use Rattle.degree.specs.Degree.{size};
-ghost use Rattle.field.specs.working.Positions.{located};
-ghost use Rattle.line.specs.working.Tables.{TablesOf};
-ghost use Rattle.line.specs.Cells.{flip};
-ghost use Rattle.line.specs.Bounded.{bounded};
-ghost use Rattle.line.specs.working.Packed.{PacksWord};
-ghost use Rattle.line.specs.working.Word.{value, width};
 ghost use lib.Dec.{eqb};
-ghost use Rattle.line.specs.working.Tries.{Answers, Below, mended, usable};
+ghost use Rattle.degree.specs.Degree.{size};
+ghost use Rattle.field.specs.working.Places.{positionsOf};
+ghost use Rattle.field.specs.working.Positions.{usable};
+ghost use Rattle.line.specs.working.Word.{value};
+ghost use Rattle.line.specs.working.Packed.{PacksWord};
+ghost use Rattle.line.specs.working.Tables.{TablesOf};
+ghost use Rattle.line.specs.working.Tries.{Below, Mends, Decodes};
 
-// What bounded-distance decoding of a word gave: was a codeword found, and which. Where none was, nothing is said of `word`.
+// What bounded-distance decoding of a word gave: was a codeword found, which, and how many cells were changed. Where none was found,
+// nothing is said of the other two.
 pub struct Tried {
     pub found: bool,
     pub word: Word,
+    pub changed: u64,
 }
 
 // The same, and the decodings counted so far.
@@ -35,74 +34,47 @@ pub struct Tally {
     pub count: u64,
 }
 
-fn flip_where(yes: bool, word: Word, k: usize) -> Word
-    requires { ⌜ k < width ⌝ }
-    ensures { λ r. ⌜ ((n : ℕ) (ws : List ℕ) → PacksWord n ws (value word) → k < n → PacksWord n (cond yes (flip k ws) ws) (value r)) ⌝ }
+// The word with the cells flipped that an entry of places and the parity say: the last cell too where the ones would stay odd in
+// number. Three flips are too many, and the mark that nothing fits is three. It goes one way for all entries: which cells are wrong
+// can't be foretold, and a branch on it would be taken wrongly as often as not.
+fn mend(d: Degree, word: Word, place: u64, parity: u64) -> Tried
+    requires { ⌜ (place < 16384) × (parity < 2) × Below (size d) (usable (eqb parity 0) (positionsOf place)) ⌝ }
+    ensures { λ r. ⌜ ((ws : List ℕ) → PacksWord (size d) ws (value word) → Mends d ws (positionsOf place) (eqb parity 0) r) ⌝ }
 {
-    if yes { flip_bit(word, k) } else { word }
-}
-
-// The word with the cells flipped that the positions and the parity say: the last cell too where the ones would stay odd in
-// number. Three flips are too many.
-fn mend(d: Degree, word: Word, wrong: Positions, parity: u16) -> Tried
-    requires { ⌜ Below (size d) wrong ⌝ }
-    ensures { λ r. ⌜ ((ws : List ℕ) → PacksWord (size d) ws (value word) → Answers (size d) (mended d ws wrong (eqb parity 0)) r) ⌝ }
-{
-    let last = order_of(d);
-    let even = parity == 0;
-    match wrong {
-        Positions::Zero => Tried {
-            found: true,
-            word: flip_where(!even, word, last),
-        },
-        Positions::One(i) => Tried {
-            found: true,
-            word: flip_bit(flip_where(even, word, last), i),
-        },
-        Positions::Two(i, j) => Tried {
-            found: even,
-            word: flip_bit(flip_bit(word, j), i),
-        },
-        Positions::Unfit => Tried { found: false, word },
-    }
-}
-
-// The error positions below n - 1, as far as `mend` has a use for them. Two can be mended only where the ones are even in number;
-// where they are odd, no time is spent on a search for two.
-fn error_positions(d: Degree, s: Syndrome, tables: &LineTables) -> Positions
-    requires { ⌜ (s .s1 < size d) × (s .s3 < size d) × TablesOf d (now tables) ⌝ }
-    ensures { λ r. ⌜ r ≡ usable (eqb (s .parity) 0) (located d (s .s1) (s .s3)) ⌝ }
-{
-    if s.parity == 0 {
-        locate(d, s.s1, s.s3, tables)
-    } else {
-        locate_single(d, s.s1, s.s3, tables)
+    let number = place / 4096;
+    let last = (number + parity) % 2;
+    let low = single((number + 1) / 2 % 2, (place % 64) as u32);
+    let high = single(number / 2 % 2, (place / 64 % 64) as u32);
+    let end = single(last, order_of(d) as u32);
+    let flips = xor_words(low, xor_words(high, end)); // joined before the word is looked at
+    let changed = number + last;
+    Tried {
+        found: changed <= Line::RADIUS,
+        word: xor_words(word, flips),
+        changed,
     }
 }
 
 // Bounded-distance decoding of a packed word.
 pub fn bounded_word(d: Degree, word: Word, tables: &LineTables) -> Tried
     requires { ⌜ TablesOf d (now tables) ⌝ }
-    ensures { λ r. ⌜ ((ws : List ℕ) → PacksWord (size d) ws (value word) → Answers (size d) (bounded d ws) r) ⌝ }
+    ensures { λ r. ⌜ ((ws : List ℕ) → PacksWord (size d) ws (value word) → Decodes d ws r) ⌝ }
 {
     let s = check_sums(d, word, tables);
-    let wrong = error_positions(d, s, tables);
-    mend(d, word, wrong, s.parity)
+    let place = place_of(d, s.s1, s.s3, s.parity, tables);
+    mend(d, word, place as u64, s.parity as u64)
 }
 
 // The one way of a line's messages to bounded-distance decoding: it is handed the running count and gives it back one higher, and
-// nothing else adds to a line's count.
+// nothing else adds to a line's count. It goes the steps of `bounded_word` itself: were they handed over, the search of other degrees
+// than 6 would be compiled into the path of every line.
 pub fn counted(d: Degree, word: Word, count: u64, tables: &LineTables) -> Tally
     requires { ⌜ (count < 1000) × TablesOf d (now tables) ⌝ }
-    ensures { λ r. ⌜ (r .count ≡ count + 1) × ((ws : List ℕ) → PacksWord (size d) ws (value word) → Answers (size d) (bounded d ws) (r .tried)) ⌝ }
+    ensures { λ r. ⌜ (r .count ≡ count + 1) × ((ws : List ℕ) → PacksWord (size d) ws (value word) → Decodes d ws (r .tried)) ⌝ }
 {
-    let answer = bounded_word(d, word, tables);
-    let found = answer.found; // one byte by itself: a copy of the whole answer would read eight where one was just written
-    let codeword = answer.word;
-    let tried = Tried {
-        found,
-        word: codeword,
-    };
+    let s = check_sums(d, word, tables);
+    let place = place_of(d, s.s1, s.s3, s.parity, tables);
+    let tried = mend(d, word, place as u64, s.parity as u64);
     let next = count + 1;
     Tally { tried, count: next }
 }

@@ -2,8 +2,6 @@
 use crate::bounded::Tried;
 use crate::packed::Line;
 use crate::packed::cell_at;
-use crate::packed::count_differences;
-use crate::packed::full;
 use crate::packed::word_cell;
 use crate::side::Side;
 use crate::word::Word;
@@ -36,12 +34,11 @@ pub enum Clause {
     Channel, // "elsewhere the message is the channel cell"
 }
 
-// One filling of a line, tried: the filled word, the channel line filled by the same bits, what was found, and how far off that is.
+// One filling of a line, tried: the filled word, the channel line filled by the same bits, and what was found.
 pub struct Trial {
     pub before: Word,
     pub channel: Word,
     pub tried: Tried,
-    pub far: u32,
 }
 
 // What a filling says at one cell.
@@ -64,24 +61,11 @@ pub struct Base {
     pub count: u64,
 }
 
-// What a filling gave, measured once for all cells of the line.
-pub fn trial_of(d: Degree, before: Word, channel: Word, tried: Tried) -> Trial
-    ensures { λ r. ⌜ ((ys rs : List ℕ) (f : ℕ) (s : Side) → PacksWord (size d) (filled s ys f) (value before) → PacksWord (size d) (filled s rs f) (value channel) → Answers (size d) (bounded d (filled s ys f)) tried → TrialOf d ys rs f s r) ⌝ }
-{
-    let far = count_differences(full(before), tried.word);
-    Trial {
-        before,
-        channel,
-        tried,
-        far,
-    }
-}
-
 // A codeword that was found within 2 stays within 2, unless it lies at 2 and the change at the cell leads away from it.
-fn reaches(found: bool, far: u32, before: u64, bit: u64, own: u64) -> bool
-    ensures { λ r. ⌜ r ≡ (found && (ltb far radius || (eqb before bit || not (eqb own before)))) ⌝ }
+fn reaches(found: bool, changed: u64, before: u64, bit: u64, own: u64) -> bool
+    ensures { λ r. ⌜ r ≡ (found && (ltb changed radius || (eqb before bit || not (eqb own before)))) ⌝ }
 {
-    found & ((far < Line::RADIUS) | ((before == bit) | (own != before)))
+    found & ((changed < Line::RADIUS) | ((before == bit) | (own != before)))
 }
 
 fn either(first: bool, a: u64, b: u64) -> u64
@@ -99,7 +83,7 @@ pub fn seen_at(d: Degree, h: Trial, c: u64, k: u32) -> Seen
     let before = word_cell(h.before, k);
     let bit = word_cell(h.channel, k);
     let own = word_cell(t.word, k);
-    let reach = reaches(t.found, h.far, before, bit, own);
+    let reach = reaches(t.found, t.changed, before, bit, own);
     let same = before == bit;
     let value = either(t.found, own, c);
     Seen {

@@ -61,7 +61,11 @@ pub fn nothing_found() -> Tried
     ensures { λ r. ⌜ r .found ≡ false ⌝ }
 {
     let word = zero_word();
-    Tried { found: false, word }
+    Tried {
+        found: false,
+        word,
+        changed: 0,
+    }
 }
 
 // Algorithm 1: count the unsure cells, fill, decode both words, measure and choose.

@@ -14,21 +14,30 @@ use crate::refusals::Refusal;
 use crate::refusals::line_test;
 use crate::refusals::messages_test;
 use crate::row::update_row;
-use crate::tables::line_tables;
+use crate::tables::LINE_ENTRIES;
+use crate::tables::put_line_tables;
 use crate::word::of_number;
 use degree::Degree;
 ghost use mathlib.Core.Path.{_≡_};
+ghost use mathlib.Core.Bool.{cond};
 ghost use mathlib.Core.List.{[]};
 ghost use Prim.Native.Nat.{ℕ, _%_};
 ghost use lib.ListN.{length};
 ghost use Rattle.degree.specs.Degree.{size};
 ghost use Rattle.line.specs.working.Packed.{IsLine, Packs};
 ghost use Rattle.line.specs.Cells.{IsWord};
-ghost use Rattle.line.specs.Bounded.{Answer, bounded};
+ghost use Rattle.line.specs.Bounded.{Answer, bounded, orBack};
 ghost use Rattle.line.specs.Decoding.{decode, messages as messagesBy};
 ghost use Rattle.line.specs.Clauses.{count as countBy};
 ghost use Rattle.line.specs.working.Tries.{Answers};
-ghost use Rattle.line.specs.Entries.{Answered, BoundedDone, DecodeLineDone, MessagesDone};
+ghost use Rattle.line.specs.Entries.{lineNumbers, Answered, WordAnswered, BoundedDone, DecodeLineDone, MessagesDone};
+
+// An answer to a full word: how many cells were changed, where a codeword was found.
+pub enum WordAnswer {
+    Refused(Refusal),
+    Failed,
+    Found(u64),
+}
 
 pub enum LineAnswer {
     Refused(Refusal),
@@ -44,11 +53,26 @@ pub enum MessagesAnswer {
 // ---- one word, one line
 
 // What was found is written in place of the cells; cells that failed stay as they came.
-fn answer_in(cells: &mut [u8], y: Line, t: Tried) -> LineAnswer
+fn put_found(cells: &mut [u8], y: Line, t: Tried)
     requires { ⌜ length (now cells) % 8 ≡ 0 ⌝ }
-    ensures { λ r. ⌜ ((n : ℕ) (p : Answer) → Packs n (now (cells .entry)) y → Answers n p t → Answered 0 p (now (cells .entry)) (now (cells .exit)) r) ⌝ }
+    ensures { λ _. ⌜ ((n : ℕ) (p : Answer) → Packs n (now (cells .entry)) y → Answers n p t → now (cells .exit) ≡ orBack (now (cells .entry)) p) ⌝ }
 {
-    update_row(cells, y, or_back(y, t));
+    update_row(cells, y, or_back(y, t))
+}
+
+fn word_answer(t: Tried) -> WordAnswer
+    ensures { λ r. ⌜ r ≡ cond (t .found) (WordAnswer.Found (t .changed)) WordAnswer.Failed ⌝ }
+{
+    if t.found {
+        WordAnswer::Found(t.changed)
+    } else {
+        WordAnswer::Failed
+    }
+}
+
+fn line_answer(t: Tried) -> LineAnswer
+    ensures { λ r. ⌜ r ≡ cond (t .found) LineAnswer.Found LineAnswer.Failed ⌝ }
+{
     if t.found {
         LineAnswer::Found
     } else {
@@ -56,24 +80,29 @@ fn answer_in(cells: &mut [u8], y: Line, t: Tried) -> LineAnswer
     }
 }
 
-fn bounded_taken(d: Degree, word: &mut [u8]) -> LineAnswer
+fn bounded_taken(d: Degree, word: &mut [u8]) -> WordAnswer
     requires { ⌜ IsWord (size d) (now word) ⌝ }
-    ensures { λ r. ⌜ Answered 0 (bounded d (now (word .entry))) (now (word .entry)) (now (word .exit)) r ⌝ }
+    ensures { λ r. ⌜ WordAnswered 0 (bounded d (now (word .entry))) (now (word .entry)) (now (word .exit)) r ⌝ }
 {
-    let tables = line_tables(d);
+    let mut tables = [0u16; LINE_ENTRIES];
+    put_line_tables(d, &mut tables);
     let y = pack(word);
     let t = bounded_word(d, ones_of(y), &tables); // no cell of a full word is unsure
-    answer_in(word, y, t)
+    put_found(word, y, t);
+    word_answer(t)
 }
 
 fn decode_taken(d: Degree, cells: &mut [u8], filling: u64) -> LineAnswer
     requires { ⌜ IsLine (size d) (now cells) ⌝ }
-    ensures { λ r. ⌜ Answered 0 (decode (bounded d) (now (cells .entry)) filling) (now (cells .entry)) (now (cells .exit)) r ⌝ }
+    ensures { λ r. ⌜ Answered 0 (decode (bounded d) (now (cells .entry)) filling) (now (cells .entry)) (now (cells .exit)) (lineNumbers r) ⌝ }
 {
-    let tables = line_tables(d);
+    let mut tables = [0u16; LINE_ENTRIES];
+    put_line_tables(d, &mut tables);
     let y = pack(cells);
     let t = try_packed(d, y, of_number(filling), 0, &tables);
-    answer_in(cells, y, t.tried)
+    let tried = t.tried;
+    put_found(cells, y, tried);
+    line_answer(tried)
 }
 
 // The messages are written, the count is handed back.
@@ -81,7 +110,8 @@ fn send_taken(d: Degree, incoming: &[u8], channel: &[u8], filling: u64, messages
     requires { ⌜ IsLine (size d) (now incoming) × IsLine (size d) (now channel) × (length (now messages) ≡ size d) ⌝ }
     ensures { λ r. ⌜ (r ≡ countBy (bounded d) (now (incoming .entry)) (now (channel .entry)) filling) × (now (messages .exit) ≡ messagesBy (bounded d) (now (incoming .entry)) (now (channel .entry)) filling) ⌝ }
 {
-    let tables = line_tables(d);
+    let mut tables = [0u16; LINE_ENTRIES];
+    put_line_tables(d, &mut tables);
     let y = pack(incoming);
     let r = pack(channel);
     let sent = messages_of(d, y, r, of_number(filling), &tables);
@@ -91,14 +121,14 @@ fn send_taken(d: Degree, incoming: &[u8], channel: &[u8], filling: u64, messages
 
 // ---- the entries
 
-// Bounded-distance decoding of a full word, in place.
-pub fn bounded_distance(degree: u64, word: &mut [u8]) -> LineAnswer
+// Bounded-distance decoding of a full word, in place: found, with the number of cells that it changed, or failed.
+pub fn bounded_distance(degree: u64, word: &mut [u8]) -> WordAnswer
     ensures { λ r. ⌜ BoundedDone degree (now (word .entry)) [] (now (word .exit)) r ⌝ }
 {
     let call = line_test(degree, word, 1);
     match call {
         Call::Taken(d) => bounded_taken(d, word),
-        Call::Refused(why) => LineAnswer::Refused(why),
+        Call::Refused(why) => WordAnswer::Refused(why),
     }
 }
 

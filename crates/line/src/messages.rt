@@ -6,7 +6,6 @@ use crate::clause::Clause;
 use crate::clause::Trial;
 use crate::clause::clause_at;
 use crate::clause::seen_at;
-use crate::clause::trial_of;
 use crate::decoding::LineTally;
 use crate::decoding::choose;
 use crate::decoding::decode_packed;
@@ -50,7 +49,7 @@ ghost use Rattle.line.specs.working.Settled.{ifNear, instead, settled};
 ghost use Rattle.line.specs.Clauses.{cost, clause, count};
 ghost use Rattle.line.specs.working.Word.{value, width};
 ghost use Rattle.line.specs.working.Tries.{Answers};
-ghost use Rattle.line.specs.working.Fillings.{TrialOf, Based, Masks, stays, oneCodeword, triedOf};
+ghost use Rattle.line.specs.working.Fillings.{TrialOf, Based, Masks, stays, oneCodeword, quiet, triedOf};
 
 // A message, and the decodings counted so far.
 pub struct Settled {
@@ -79,6 +78,7 @@ fn near_only(d: Degree, h: Trial, c: u64, k: u32) -> Tried
     Tried {
         found: t.found & v.reach,
         word,
+        changed: t.changed,
     }
 }
 
@@ -188,7 +188,6 @@ fn no_trial() -> Trial {
         before: none,
         channel: none,
         tried,
-        far: 0,
     }
 }
 
@@ -201,14 +200,24 @@ fn few_base(d: Degree, y: Line, r: Line, filling: Word, erased: u32, tables: &Li
     let channel = fill(r, filling);
     let one = counted(d, words[0], 0, tables);
     let two = counted(d, words[1], one.count, tables);
+    let first = one.tried;
+    let second = two.tried;
     Base {
         incoming: y,
         channel: r,
         filling,
         erased,
-        own: or_back(y, choose(y, one.tried, two.tried)),
-        one: trial_of(d, words[0], channel[0], one.tried),
-        two: trial_of(d, words[1], channel[1], two.tried),
+        own: or_back(y, choose(y, first, second)),
+        one: Trial {
+            before: words[0],
+            channel: channel[0],
+            tried: first,
+        },
+        two: Trial {
+            before: words[1],
+            channel: channel[1],
+            tried: second,
+        },
         count: two.count,
     }
 }
@@ -240,7 +249,7 @@ fn leaving(h: Trial) -> Word
 {
     let t = h.tried;
     let moved = xor_words(h.before, h.channel);
-    if h.far < Line::RADIUS {
+    if t.changed < Line::RADIUS {
         zero_word()
     } else {
         without(moved, xor_words(t.word, h.before))
@@ -282,9 +291,9 @@ fn mask_of(d: Degree, y: Line, r: Line, erased: u32) -> Word
     }
 }
 
-// The cells that are settled one by one. Where both fillings decoded to one codeword, it is the message of each cell at which it
-// stays in reach of both, and it is the base line.
-fn left_of(d: Degree, b: Base) -> Word
+// The cells that are settled one by one, by masks. Where both fillings decoded to one codeword, it is the message of each cell at
+// which it stays in reach of both, and it is the base line.
+fn masked_of(d: Degree, b: Base) -> Word
     ensures { λ m. ⌜ ((ys rs : List ℕ) (f : ℕ) → Based d ys rs f b → Masks d ys rs f (value m)) ⌝ }
 {
     let all = mask_of(d, b.incoming, b.channel, b.erased);
@@ -296,6 +305,28 @@ fn left_of(d: Degree, b: Base) -> Word
         )
     } else {
         all
+    }
+}
+
+// Did both fillings decode to one codeword that no change of one cell takes out of reach, with no cell crowded? It is then the message
+// of every cell; in a decode most lines are so.
+fn is_quiet(b: Base) -> bool
+    ensures { λ r. ⌜ r ≡ quiet b ⌝ }
+{
+    let one = b.one.tried;
+    let two = b.two.tried;
+    let near = (one.changed < Line::RADIUS) & (two.changed < Line::RADIUS);
+    ((b.erased < Line::DISTANCE - 1) & near) & one_codeword(b)
+}
+
+// The cells that are settled one by one.
+fn left_of(d: Degree, b: Base) -> Word
+    ensures { λ m. ⌜ ((ys rs : List ℕ) (f : ℕ) → Based d ys rs f b → Masks d ys rs f (value m)) ⌝ }
+{
+    if is_quiet(b) {
+        zero_word()
+    } else {
+        masked_of(d, b)
     }
 }
 

@@ -45,7 +45,7 @@ impl Line {
 
     pub const K_SIX: usize = 51;
 
-    pub const RADIUS: u32 = 2;
+    pub const RADIUS: u64 = 2;
 
     pub const DISTANCE: u32 = 6;
 

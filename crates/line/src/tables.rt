@@ -1,14 +1,22 @@
-// The tables that the decoding of a line reads. They are made once for a decoding and lent to all that read them.
+// The tables that the decoding of a line reads. They are made once for a decoding, where they stay, and lent to all that read them.
 use degree::Degree;
+use field::tables::FIELD_ENTRIES;
 use field::tables::FieldTables;
-use field::tables::make_tables;
+use field::tables::put_tables;
+ghost use mathlib.Core.Path.{_≡_};
+ghost use Prim.Native.Nat.{ℕ};
+ghost use lib.ListN.{getD};
 ghost use Rattle.line.specs.working.Tables.{TablesOf};
 
 // What they hold is known to the field part alone.
 pub type LineTables = FieldTables;
 
-pub fn line_tables(d: Degree) -> LineTables
-    ensures { λ r. ⌜ TablesOf d r ⌝ }
+pub const LINE_ENTRIES: usize = FIELD_ENTRIES;
+
+// The tables of a degree, into entries that are 0.
+pub fn put_line_tables(d: Degree, tables: &mut LineTables)
+    requires { ⌜ ((i : ℕ) → getD (now tables) i 0 ≡ 0) ⌝ }
+    ensures { λ _. ⌜ TablesOf d (now (tables .exit)) ⌝ }
 {
-    make_tables(d)
+    put_tables(d, tables)
 }

@@ -13,7 +13,6 @@ ghost use lib.Count.{ones, trailingZeros};
 ghost use lib.Dec.{eqb};
 ghost use Rattle.degree.specs.Degree.{size};
 ghost use Rattle.field.specs.working.Checks.{IsSyndrome};
-ghost use Rattle.line.specs.Cells.{flip};
 ghost use Rattle.line.specs.working.Packed.{PacksWord};
 ghost use Rattle.line.specs.working.Tables.{TablesOf};
 ghost use Rattle.line.specs.working.Word.{value, width};
@@ -127,16 +126,6 @@ pub fn put_bit(a: Word, k: u32, x: u64) -> Word
     xor_words(a, single(bit_at(a, k) ^ x, k))
 }
 
-// The word with cell k flipped.
-pub fn flip_bit(a: Word, k: usize) -> Word
-    requires { ⌜ k < width ⌝ }
-    ensures { λ r. ⌜ ((n : ℕ) (ws : List ℕ) → PacksWord n ws (value a) → k < n → PacksWord n (flip k ws) (value r)) ⌝ }
-{
-    Word {
-        bits: a.bits ^ (1 << k),
-    }
-}
-
 // ---- the set cells
 
 pub fn count_bits(a: Word) -> u32
@@ -168,7 +157,7 @@ pub fn rest(a: Word) -> Word
 // The check sums of the cells: the one place that hands the machine word to the field part.
 pub fn check_sums(d: Degree, a: Word, tables: &LineTables) -> Syndrome
     requires { ⌜ TablesOf d (now tables) ⌝ }
-    ensures { λ r. ⌜ (r .s1 < size d) × (r .s3 < size d) × ((ws : List ℕ) → PacksWord (size d) ws (value a) → IsSyndrome d ws r) ⌝ }
+    ensures { λ r. ⌜ (r .s1 < size d) × (r .s3 < size d) × (r .parity < 2) × ((ws : List ℕ) → PacksWord (size d) ws (value a) → IsSyndrome d ws r) ⌝ }
 {
     syndrome_of(d, a.bits, tables)
 }

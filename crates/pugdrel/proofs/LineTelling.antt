@@ -6,19 +6,18 @@ use mathlib.Core.List.{List, [], _∷_, _++_, append-nil}
 use Prim.Native.Nat.{ℕ, _^_}
 use native.Mathlib.Omega.{arith}
 use lib.ListN.{length, take, drop, drop-of-length-le}
-use Rattle.laws.specs.Bits.{bit}
 use Rattle.degree.specs.declared.Degree.{Degree}
-use Rattle.line.specs.declared.entry.LineAnswer.{LineAnswer}
+use Rattle.line.specs.declared.entry.WordAnswer.{WordAnswer}
 use Rattle.line.specs.declared.entry.MessagesAnswer.{MessagesAnswer}
-use Rattle.line.specs.Bounded.{Answer, Failed, orBack, bounded}
+use Rattle.line.specs.Bounded.{Answer, Failed, orBack, bounded, changed}
 use Rattle.line.specs.Decoding.{messages}
 use Rattle.line.specs.Clauses.{count}
 use Rattle.line.specs.Refusals.{refusal, given, misfit, lineTests, messagesTests}
-use Rattle.line.specs.Entries.{isFound, lineNumbers, Answered, messagesNumbers, MessagesDone}
+use Rattle.line.specs.Entries.{isFound, Answered, WordAnswered, messagesNumbers, MessagesDone}
 use Rattle.line.proofs.Refusing.{some-none, none-applies, given-none}
 use Rattle.pugdrel.specs.Reports.{told}
 use Rattle.pugdrel.specs.working.Numbers.{fits}
-use Rattle.pugdrel.specs.LineCalls.{LineTold, MessagesTold}
+use Rattle.pugdrel.specs.LineCalls.{MessagesTold}
 use Rattle.pugdrel.proofs.Handing.{no-line, Alike, same-refusal, same-given, lent-part}
 
 -- ---- a word or a line, decoded in place: the part that is handed on, and the cells after it
@@ -48,23 +47,33 @@ module _ (bound degree : ℕ) (s : List ℕ) where
         let none′ : Given s (true ∷ []) ≡ Failed = given-none (lineTests bound degree s (true ∷ [])) degree (asked s) Failed (line-alike .refused) in
         rw (e, h, none, none′)
 
-    pub line-told : (x : ℕ) {q old new : List ℕ} {a : LineAnswer} {number : ℕ} → x ≡ cond (fits 1 old) (length s) 0
-        → Answered (refusal (lineTests bound degree (take x s) [])) (Given (take x s) []) (take x s) q a
-        → number ≡ lineNumbers a .0 → new ≡ told (bit (lineNumbers a .1) ∷ []) old
-        → LineTold (λ more. Answered (refusal (lineTests bound degree s more)) (Given s more) s (q ++ drop x s)) old new number
-    line-told x {old} {a} e done n t =
-        let fit = fits 1 old in
+    -- an answer to the part that is handed on is one to all cells
+    pub line-handed : (fit : Bool) (x : ℕ) {q : List ℕ} {numbers : ℕ × Bool} → x ≡ cond fit (length s) 0
+        → Answered (refusal (lineTests bound degree (take x s) [])) (Given (take x s) []) (take x s) q numbers
+        → Answered (refusal (lineTests bound degree s (not fit ∷ []))) (Given s (not fit ∷ [])) s (q ++ drop x s) numbers
+    line-handed fit x e done =
         let done′ = rw (lent-part fit s e) at done in
         record {
-          answer = a;
-          done = record {
-            refusal = done′ .refusal ∙ same-refusal (lineTests bound degree) s line-alike fit;
-            found = done′ .found ∙ ap isFound (same-given (lineTests bound degree) s line-alike fit degree asked Failed);
-            cells = whole fit x e (done′ .cells);
-          };
-          refusal = n;
-          report = t;
+          refusal = done′ .refusal ∙ same-refusal (lineTests bound degree) s line-alike fit;
+          found = done′ .found ∙ ap isFound (same-given (lineTests bound degree) s line-alike fit degree asked Failed);
+          cells = whole fit x e (done′ .cells);
         }
+
+    -- and so is the number of cells changed
+    changed-handed : (fit : Bool) {n : ℕ} → n ≡ changed (cond fit s []) (Given (cond fit s []) []) → n ≡ changed s (Given s (not fit ∷ []))
+    changed-handed true h = h ∙ ap (changed s) (same-given (lineTests bound degree) s line-alike true degree asked Failed)
+    changed-handed false h =
+        let none : Given [] [] ≡ Failed = given-none (lineTests bound degree [] []) degree (asked []) Failed (λ z. line-alike .refused (sym (line-alike .wrong) ∙ z)) in
+        let none′ : Given s (true ∷ []) ≡ Failed = given-none (lineTests bound degree s (true ∷ [])) degree (asked s) Failed (line-alike .refused) in
+        h ∙ rw (none, none′)
+
+    pub word-handed : (fit : Bool) (x : ℕ) {q : List ℕ} {a : WordAnswer} → x ≡ cond fit (length s) 0
+        → WordAnswered (refusal (lineTests bound degree (take x s) [])) (Given (take x s) []) (take x s) q a
+        → WordAnswered (refusal (lineTests bound degree s (not fit ∷ []))) (Given s (not fit ∷ [])) s (q ++ drop x s) a
+    word-handed fit x e done = record {
+      answer = line-handed fit x e (done .answer);
+      changed = changed-handed fit (rw (lent-part fit s e) at (done .changed));
+    }
 
 -- ---- the messages of a line
 

@@ -4,6 +4,7 @@ use crate::reports::lent;
 use crate::reports::tell;
 use line::entry::LineAnswer;
 use line::entry::MessagesAnswer;
+use line::entry::WordAnswer;
 use line::entry::bounded_distance;
 use line::entry::decode_line;
 use line::entry::line_messages;
@@ -11,11 +12,41 @@ use line::refusals::number_of;
 ghost use mathlib.Core.Path.{_≡_};
 ghost use mathlib.Core.List.{[], _∷_};
 ghost use Rattle.laws.specs.Bits.{bit};
-ghost use Rattle.line.specs.Entries.{lineNumbers, messagesNumbers};
+ghost use Rattle.line.specs.Entries.{wordNumbers, lineNumbers, messagesNumbers};
 ghost use Rattle.pugdrel.specs.Reports.{told};
 ghost use Rattle.pugdrel.specs.LineCalls.{BoundedTold, DecodeLineTold, MessagesTold};
 
 // ---- an answer in document 01's numbers
+
+fn word_refusal(answer: WordAnswer) -> u64
+    ensures { λ r. ⌜ r ≡ wordNumbers answer .0 ⌝ }
+{
+    match answer {
+        WordAnswer::Refused(why) => number_of(why),
+        WordAnswer::Failed => 0,
+        WordAnswer::Found(_) => 0,
+    }
+}
+
+fn word_found(answer: WordAnswer) -> bool
+    ensures { λ r. ⌜ r ≡ wordNumbers answer .1 ⌝ }
+{
+    match answer {
+        WordAnswer::Refused(_) => false,
+        WordAnswer::Failed => false,
+        WordAnswer::Found(_) => true,
+    }
+}
+
+fn word_changed(answer: WordAnswer) -> u64
+    ensures { λ r. ⌜ r ≡ wordNumbers answer .2 ⌝ }
+{
+    match answer {
+        WordAnswer::Refused(_) => 0,
+        WordAnswer::Failed => 0, // the word is as it came
+        WordAnswer::Found(changed) => changed,
+    }
+}
 
 fn line_refusal(answer: LineAnswer) -> u64
     ensures { λ r. ⌜ r ≡ lineNumbers answer .0 ⌝ }
@@ -66,14 +97,16 @@ fn tell_found(answer: LineAnswer, report: &mut [u64]) -> u64
     line_refusal(answer)
 }
 
-// Bounded-distance decoding of a full word, in place. Reports found.
+// Bounded-distance decoding of a full word, in place. Reports found, and the number of cells changed.
 #[no_mangle]
 pub extern "C" fn pugdrel_bounded_distance(degree: u64, word: &mut [u8], report: &mut [u64]) -> u64
     ensures { λ r. ⌜ BoundedTold degree (now (word .entry)) (now (word .exit)) (now (report .entry)) (now (report .exit)) r ⌝ }
 {
-    let end = lent(report.len() == 1, word.len());
+    let end = lent(report.len() == 2, word.len());
     let answer = bounded_distance(degree, &mut word[..end]);
-    tell_found(answer, report)
+    let numbers = [bit_of(word_found(answer)), word_changed(answer)];
+    tell(&numbers, report);
+    word_refusal(answer)
 }
 
 // Line decoding, in place. Reports found.

@@ -2,10 +2,11 @@
 ghost use mathlib.Core.Path.{_≡_};
 ghost use Rattle.pugdrel.specs.Version.{version};
 
-// It grows by 1000000 where a call changes, by 1000 where calls are added, by 1 where neither does.
+// A million times the first number, a thousand times the second, and the third. The first grows where a call changes, the second
+// where calls are added, the third where neither does; the numbers behind it start again at 0.
 #[no_mangle]
 pub extern "C" fn pugdrel_version() -> u64
     ensures { λ r. ⌜ r ≡ version ⌝ }
 {
-    1000
+    1000000
 }

@@ -7,6 +7,7 @@ use damage::arrays::make_sent;
 use damage::chance::below;
 use line::entry::LineAnswer;
 use line::entry::MessagesAnswer;
+use line::entry::WordAnswer;
 use line::refusals::number_of;
 use second::arrays::area_of;
 use second::codewords::Weights;
@@ -173,6 +174,14 @@ fn row_number(degree: u64, cells: &[u8], index: usize) -> u64 {
     }
 }
 
+fn word_number(answer: WordAnswer) -> u64 {
+    match answer {
+        WordAnswer::Refused(why) => number_of(why),
+        WordAnswer::Failed => 0,
+        WordAnswer::Found(_) => 0,
+    }
+}
+
 fn line_number(answer: LineAnswer) -> u64 {
     match answer {
         LineAnswer::Refused(why) => number_of(why),
@@ -225,7 +234,7 @@ fn given_number(
     } else if entry == LINE_MESSAGES {
         messages_number(degree, one, other, third)
     } else if entry == BOUNDED_DISTANCE {
-        line_number(line::entry::bounded_distance(degree, one))
+        word_number(line::entry::bounded_distance(degree, one))
     } else {
         line_number(line::entry::decode_line(degree, one, 0))
     }

@@ -60,7 +60,7 @@ pub fn unsure(n: usize, line: Line) -> u64
 }
 
 // The known cells of a line in which a word differs from it.
-fn differences(n: usize, line: Line, word: Line) -> u64
+pub fn differences(n: usize, line: Line, word: Line) -> u64
     requires { ⌜ n ≤ 64 ⌝ }
     ensures { λ r. ⌜ (r ≡ sumTo (differsAt line word) n) × (r ≤ n) ⌝ }
 {

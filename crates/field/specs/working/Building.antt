@@ -21,3 +21,8 @@ pub record Block (first base k : ℕ) (a b : List ℕ) : Type 0 where
 pub record Summed (k : ℕ) (a b : List ℕ) : Type 0 where
   pub made : (j x : ℕ) → j < k → x < 256 → getD b (128 + j * 256 + x) 0 ≡ sumOver (λ i. getD a (j * 8 + i) 0) (digits 8 x)
   pub kept : (i : ℕ) → i < 128 → getD b i 0 ≡ getD a i 0
+
+-- the first k entries of `from` stand from `at` on, all before stands
+pub record Copied (at k : ℕ) (from a b : List ℕ) : Type 0 where
+  pub made : (x : ℕ) → x < k → getD b (at + x) 0 ≡ getD from x 0
+  pub kept : (i : ℕ) → i < at → getD b i 0 ≡ getD a i 0

@@ -1,6 +1,6 @@
 -- The error positions that belong to the first two check sums s1 and s3: none, one or two cells below n - 1 whose flips
 -- would make both sums 0, or the answer that no such cells fit.
-use mathlib.Core.Bool.{true, false, _&&_}
+use mathlib.Core.Bool.{Bool, true, false, _&&_}
 use Prim.Native.Nat.{ℕ, _*_}
 use lib.Bits.{bitXor}
 use lib.Dec.{eqb}
@@ -47,3 +47,8 @@ atMostOne Zero = Zero
 atMostOne (One i) = One i
 atMostOne (Two i j) = Unfit
 atMostOne Unfit = Unfit
+
+-- the positions that can be of use: two are of none where the ones of a word are odd in number
+abbrev pub usable : (even : Bool) → Positions → Positions
+usable true p = p
+usable false p = atMostOne p

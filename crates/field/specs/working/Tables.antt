@@ -7,8 +7,10 @@ use lib.ListN.{length, getD}
 use Rattle.laws.specs.Digits.{sumOver, digits}
 use Rattle.laws.specs.working.Digits.{upTo}
 use Rattle.degree.specs.declared.Degree.{Degree}
+use Rattle.degree.specs.declared.Degree.the-variants.{Four, Six}
 use Rattle.degree.specs.Degree.{size, order}
 use Rattle.field.specs.Field.{power}
+use Rattle.field.specs.working.Places.{Places}
 
 -- the fixed table of powers
 pub record Powers (d : Degree) (ps : List ℕ) : Type 0 where
@@ -33,8 +35,14 @@ Logs d t = (i : ℕ) → i < order d → getD t (64 + power d i) 0 ≡ i
 abbrev pub Sums : Degree → ℕ → List ℕ → Type 0
 Sums d k t = (j x : ℕ) → j < k → x < 256 → getD t (128 + j * 256 + x) 0 ≡ sumOver (λ i. weight d (j * 8 + i)) (digits 8 x)
 
+-- the table of places, from entry 2176 on: at degree 6 alone
+abbrev pub Placed : Degree → List ℕ → Type 0
+Placed Four t = Unit {0}
+Placed Six t = Places Six 2176 t
+
 pub record Tables (d : Degree) (t : List ℕ) : Type 0 where
-  pub long : length t ≡ 2176
+  pub long : length t ≡ 6272
   pub weights : Weights d t
   pub logs : Logs d t
   pub sums : Sums d 8 t
+  pub places : Placed d t

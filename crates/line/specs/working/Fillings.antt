@@ -3,7 +3,7 @@
 use mathlib.Core.Path.{_≡_}
 use mathlib.Core.Bool.{Bool, true, false, cond, not, _&&_, _||_}
 use mathlib.Core.List.{List}
-use Prim.Native.Nat.{ℕ, _^_, _<_}
+use Prim.Native.Nat.{ℕ, _-_, _^_, _<_}
 use lib.Dec.{eqb, ltb}
 use Rattle.laws.specs.working.Bits.{bitAt}
 use Rattle.degree.specs.declared.Degree.{Degree}
@@ -14,21 +14,20 @@ use Rattle.line.specs.declared.bounded.Tried.{Tried}
 use Rattle.line.specs.declared.clause.Trial.{Trial}
 use Rattle.line.specs.declared.clause.Seen.{Seen}
 use Rattle.line.specs.declared.clause.Base.{Base}
-use Rattle.line.specs.Cells.{cell, erasures, few, distance, filled, radius}
-use Rattle.line.specs.Bounded.{Found, bounded}
+use Rattle.line.specs.Cells.{cell, erasures, few, filled, designedDistance, radius}
+use Rattle.line.specs.Bounded.{bounded}
 use Rattle.line.specs.Decoding.{decoded, message}
 use Rattle.line.specs.Clauses.{reach, same, answerCell, after, cost, clause}
 use Rattle.line.specs.working.Packed.{Packs, PacksWord}
 use Rattle.line.specs.working.Word.{value}
-use Rattle.line.specs.working.Tries.{Answers}
+use Rattle.line.specs.working.Tries.{Decodes}
 
 module _ (d : Degree) (ys rs : List ℕ) (f : ℕ) where
-  -- a filling of the incoming line, and of the channel line by the same bits; what it gave, and how far that is
+  -- a filling of the incoming line, and of the channel line by the same bits, and what it gave
   pub record TrialOf (s : Side) (h : Trial) : Type 0 where
     pub before : PacksWord (size d) (filled s ys f) (value (h .before))
     pub channel : PacksWord (size d) (filled s rs f) (value (h .channel))
-    pub tried : Answers (size d) (bounded d (filled s ys f)) (h .tried)
-    pub far : (c : List ℕ) → bounded d (filled s ys f) ≡ Found c → h .far ≡ distance (filled s ys f) c
+    pub tried : Decodes d (filled s ys f) (h .tried)
 
   -- what a filling says at cell k
   pub record Sees (k : ℕ) (s : Side) (v : Seen) : Type 0 where
@@ -62,11 +61,15 @@ module _ (d : Degree) (ys rs : List ℕ) (f : ℕ) where
 abbrev pub stays : Trial → ℕ → Bool
 stays h k =
     let before = bitAt (value (h .before)) k in
-    ltb (h .far) radius || (eqb before (bitAt (value (h .channel)) k) || not (eqb (bitAt (value (h .tried .word)) k) before))
+    ltb (h .tried .changed) radius || (eqb before (bitAt (value (h .channel)) k) || not (eqb (bitAt (value (h .tried .word)) k) before))
 
 -- both fillings decoded to one codeword
 abbrev pub oneCodeword : Base → Bool
 oneCodeword b = (b .one .tried .found && b .two .tried .found) && eqb (value (b .one .tried .word)) (value (b .two .tried .word))
+
+-- both fillings decoded to one codeword nearer than the radius, and one erasure more is not too many
+abbrev pub quiet : Base → Bool
+quiet b = (ltb (b .erased) (designedDistance - 1) && (ltb (b .one .tried .changed) radius && ltb (b .two .tried .changed) radius)) && oneCodeword b
 
 -- the answer of a filling
 abbrev pub triedOf : Base → Side → Tried

@@ -7,10 +7,9 @@ use Prim.Native.Nat.{ℕ, _<_}
 use Rattle.degree.specs.declared.Degree.{Degree}
 use Rattle.field.specs.declared.locate.Positions.{Positions}
 use Rattle.field.specs.declared.locate.Positions.the-variants.{Zero, One, Two, Unfit}
-use Rattle.degree.specs.Degree.{order}
-use Rattle.field.specs.working.Positions.{atMostOne}
+use Rattle.degree.specs.Degree.{size, order}
 use Rattle.line.specs.declared.bounded.Tried.{Tried}
-use Rattle.line.specs.Bounded.{Answer, Found, Failed}
+use Rattle.line.specs.Bounded.{Answer, Found, Failed, bounded, changed}
 use Rattle.line.specs.Cells.{flip}
 use Rattle.line.specs.working.Packed.{PacksWord}
 use Rattle.line.specs.working.Word.{value}
@@ -26,10 +25,15 @@ mended d w (Two i j) true = Found (flip i (flip j w))
 mended d w (Two i j) false = Failed
 mended d w Unfit even = Failed
 
--- the positions that make a difference to `mended`: two do not, where the ones are odd in number
-abbrev pub usable : (even : Bool) → Positions → Positions
-usable true p = p
-usable false p = atMostOne p
+-- the cells that are changed so
+abbrev pub changes : Positions → (even : Bool) → ℕ
+changes Zero true = 0
+changes Zero false = 1
+changes (One i) true = 2
+changes (One i) false = 1
+changes (Two i j) true = 2
+changes (Two i j) false = 0
+changes Unfit even = 0
 
 -- the positions are cells below n
 abbrev pub Below : ℕ → Positions → Type 0
@@ -42,3 +46,13 @@ Below n Unfit = Unit {0}
 pub data Answers (n : ℕ) : Answer → Tried → Type 0 where
   failed : {t : Tried} → t .found ≡ false → Answers n Failed t
   found : {c : List ℕ} {t : Tried} → t .found ≡ true → PacksWord n c (value (t .word)) → Answers n (Found c) t
+
+-- what was tried gave what the positions and the parity say, and where something was found, so many cells were changed
+pub record Mends (d : Degree) (ws : List ℕ) (p : Positions) (even : Bool) (t : Tried) : Type 0 where
+  pub answer : Answers (size d) (mended d ws p even) t
+  pub changed : t .found ≡ true → t .changed ≡ changes p even
+
+-- what was tried gave what bounded-distance decoding of a word gives, and where something was found, so many cells were changed
+pub record Decodes (d : Degree) (ws : List ℕ) (t : Tried) : Type 0 where
+  pub answer : Answers (size d) (bounded d ws) t
+  pub changed : t .found ≡ true → t .changed ≡ changed ws (bounded d ws)

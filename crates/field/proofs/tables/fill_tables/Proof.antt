@@ -1,8 +1,7 @@
 -- `tables::fill_tables` meets its contract: the sums are of the weights, and neither they nor the logarithms change a weight.
 -- Assumes nothing.
 use borrow.Author.Needs.{needs}
-use native.Mathlib.Omega.{arith}
-use Rattle.field.proofs.Filling.{tables-done}
+use Rattle.field.proofs.Filling.{sums-done}
 use Rattle.field.proofs.tables.fill_tables.Statement.{statement}
 use Rattle.field.proofs.tables.fill_tables.Tie as tie
 
@@ -22,7 +21,7 @@ returns : tie.Need-returns
 returns c =
     let logs = c .before .before .before .before .before .before .put-logs in
     let sums = c .before .before .put-sums in
-    tables-done (c .before .before .before .before .before .before .before .before .before .before .before .before .before .before .args .d) _ (sums .last .0) (omega arith) (logs .ensures .0) (logs .ensures .1) (sums .ensures)
+    sums-done (c .before .before .before .before .before .before .before .before .before .before .before .before .before .before .args .d) _ (sums .last .0) (logs .ensures .0) (logs .ensures .1) (sums .ensures)
 
 pub fill-tables-spec : {M : Type 1} → statement M
 fill-tables-spec =

@@ -1,7 +1,7 @@
 -- `line::bounded::bounded_word` meets its contract: the located positions and the parity say what bounded distance finds.
 -- Assumes nothing.
-use lib.Dec.{eqb}
 use borrow.Author.Needs.{needs}
+use lib.Dec.{eqb}
 use Rattle.line.proofs.Tries.{usable-below, tried-bounded}
 use Rattle.line.proofs.bounded.bounded_word.Statement.{statement}
 use Rattle.line.proofs.bounded.bounded_word.Tie as tie
@@ -9,18 +9,30 @@ use Rattle.line.proofs.bounded.bounded_word.Tie as tie
 check-sums-requires : tie.Need-check-sums-requires
 check-sums-requires c κs = search needs
 
-error-positions-requires : tie.Need-error-positions-requires
-error-positions-requires c κs = let s = c .check-sums .ensures in (s .0, s .1, c .before .pre)
+place-of-requires : tie.Need-place-of-requires
+place-of-requires c κs = let s = c .check-sums .ensures in (s .0, s .1, c .before .pre)
+
+cast-mend : tie.Need-cast-mend
+cast-mend c = search needs
+
+cast-mend-2 : tie.Need-cast-mend-2
+cast-mend-2 c = search needs
 
 mend-requires : tie.Need-mend-requires
 mend-requires c κs =
-    let s = c .before .check-sums .result in
-    search (needs, usable-below (c .before .before .args .d) (s .s1) (s .s3) (eqb (s .parity) 0) (c .error-positions .result) (c .error-positions .ensures))
+    let d = c .before .before .before .args .d in
+    let s = c .before .before .check-sums in
+    let p = c .before .place-of in
+    (p .ensures .0, s .ensures .2, usable-below d (s .result .s1) (s .result .s3) (p .result) (eqb (s .result .parity) 0) (p .ensures .1))
 
 returns : tie.Need-returns
 returns c =
-    let s = c .before .before .before in
-    λ ws p. tried-bounded (s .args .d) {t = c .mend .result} p (c .before .before .check-sums .ensures .2 ws p) (c .before .error-positions .ensures) (c .mend .ensures ws p)
+    let p = c .before .before .place-of in
+    let s = c .before .before .before .check-sums in
+    let d = c .before .before .before .before .args .d in
+    λ ws q. tried-bounded d (p .result) {t = c .mend .result} q (s .ensures .3 ws q) (p .ensures .1) (c .mend .ensures ws q)
 
 pub bounded-word-spec : {M : Type 1} → statement M
-bounded-word-spec = tie.close (tie.spec check-sums-requires error-positions-requires mend-requires returns)
+bounded-word-spec =
+    tie.close
+    (tie.spec check-sums-requires place-of-requires cast-mend cast-mend-2 mend-requires returns)

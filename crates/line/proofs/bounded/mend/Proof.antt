@@ -1,98 +1,96 @@
--- `line::bounded::mend` meets its contract: by cases of the positions, each with the flips that the parity asks for.
+-- `line::bounded::mend` meets its contract: three flips, each made or not, by the number of positions and the parity.
 -- Assumes nothing.
-use mathlib.Core.Path.{_≡_, refl, subst}
+use mathlib.Core.Path.{_≡_, refl, ap, ap₂, _∙_}
+use Prim.Native.Nat.{_+_, _/_, _%_}
 use native.Mathlib.Omega.{arith}
-use lib.Dec.{eqb}
 use borrow.Author.Needs.{needs}
+use borrow.Author.Tests.{leb-true}
+use lib.Bits.{bitXor}
 use Rattle.degree.specs.Degree.{size}
+use Rattle.field.specs.working.Places.{positionsOf}
 use Rattle.field.proofs.Primitive.{primitive}
-use Rattle.line.specs.working.Tries.{Below, failed}
-use Rattle.line.proofs.Tries.{last-below, zero-mended, one-mended, two-mended}
+use Rattle.line.specs.working.Word.{value}
+use Rattle.line.proofs.Packing.{flips-packed}
+use Rattle.line.proofs.Tries.{last-below, answer-by, first-below, second-below}
 use Rattle.line.proofs.bounded.mend.Statement.{statement}
 use Rattle.line.proofs.bounded.mend.Tie as tie
+
+add-last : tie.Need-add-last
+add-last c = search needs
+
+add-single : tie.Need-add-single
+add-single c = search needs
+
+cast-single : tie.Need-cast-single
+cast-single c = search needs
+
+single-requires : tie.Need-single-requires
+single-requires c κs = search needs
+
+cast-single-2 : tie.Need-cast-single-2
+cast-single-2 c = search needs
+
+single-requires-2 : tie.Need-single-requires-2
+single-requires-2 c κs = search needs
 
 order-of-requires : tie.Need-order-of-requires
 order-of-requires c κs = search needs
 
-enum-told : tie.Need-enum-told
-enum-told c = search needs
+cast-single-3 : tie.Need-cast-single-3
+cast-single-3 c = let d = c .before .before .before .args .d in omega (arith, last-below d, primitive d .room, c .order-of .ensures)
 
-flip-where-requires : tie.Need-flip-where-requires
-flip-where-requires c κs = omega (arith, last-below (c .before .before .before .args .d), primitive (c .before .before .before .args .d) .room, c .before .before .order-of .ensures)
+single-requires-3 : tie.Need-single-requires-3
+single-requires-3 c κs = let d = c .before .before .before .args .d in (omega arith, omega (arith, last-below d, primitive d .room, c .order-of .ensures))
 
-enum-known-wrong : tie.Need-enum-known-wrong
-enum-known-wrong c = search needs
+xor-words-requires : tie.Need-xor-words-requires
+xor-words-requires c κs = search needs
 
-flip-where-requires-2 : tie.Need-flip-where-requires-2
-flip-where-requires-2 c κs = omega (arith, last-below (c .before .before .before .before .args .d), primitive (c .before .before .before .before .args .d) .room, c .before .before .before .order-of .ensures)
+xor-words-requires-2 : tie.Need-xor-words-requires-2
+xor-words-requires-2 c κs = search needs
 
-flip-bit-requires : tie.Need-flip-bit-requires
-flip-bit-requires c κs =
-    let s = c .before .before .before .before .before in
-    let h = subst (Below (size (s .args .d))) (c .before .before .wrong .given .1) (s .pre) in
-    omega (arith, primitive (s .args .d) .room)
+add-changed : tie.Need-add-changed
+add-changed c = search needs
 
-enum-known-wrong-2 : tie.Need-enum-known-wrong-2
-enum-known-wrong-2 c = search needs
-
-flip-bit-requires-2 : tie.Need-flip-bit-requires-2
-flip-bit-requires-2 c κs =
-    let s = c .before .before .before .before in
-    let h = subst (Below (size (s .args .d))) (c .before .wrong2 .given .1) (s .pre) in
-    omega (arith, primitive (s .args .d) .room)
-
-flip-bit-requires-3 : tie.Need-flip-bit-requires-3
-flip-bit-requires-3 c κs =
-    let s = c .before .before .before .before .before in
-    let h = subst (Below (size (s .args .d))) (c .before .before .wrong2 .given .1) (s .pre) in
-    omega (arith, primitive (s .args .d) .room)
-
-enum-told-2 : tie.Need-enum-told-2
-enum-told-2 c = search needs
+xor-words-requires-3 : tie.Need-xor-words-requires-3
+xor-words-requires-3 c κs = search needs
 
 returns : tie.Need-returns
 returns c =
-    let s = c .before .before .before .before in
-    let last = c .before .before .before .order-of .ensures in
-    λ ws p. rw (c .before .enum-told .given .1) (zero-mended (s .args .d) ws (eqb (s .args .parity) 0) refl (rw last at (c .flip-where .ensures (size (s .args .d)) ws p (rw last (last-below (s .args .d))))))
-
-returns-2 : tie.Need-returns-2
-returns-2 c =
-    let s = c .before .before .before .before .before .before in
-    let last = c .before .before .before .before .before .order-of .ensures in
-    let w = c .before .before .before .wrong in
-    let h = subst (Below (size (s .args .d))) (w .given .1) (s .pre) in
+    let q = c .before .before .before in
+    let s = q .before .before .before .before in
+    let a = s .args in
+    let n = size (a .d) in
+    let last = q .before .order-of .ensures in
+    let low = q .before .before .before .single .ensures in
+    let high = q .before .before .single2 .ensures in
+    let end = rw last at (q .single3 .ensures) in
+    let joined = c .before .xor-words2 .ensures ∙ ap₂ bitXor low (c .before .before .xor-words .ensures ∙ ap₂ bitXor high end) in
+    let number = a .place / 4096 in
     λ ws p.
-    let q = rw last at (c .before .flip-where2 .ensures (size (s .args .d)) ws p (rw last (last-below (s .args .d)))) in
-    rw (w .given .1) (one-mended (s .args .d) ws (w .given .0 .0) (eqb (s .args .parity) 0) refl (c .flip-bit .ensures (size (s .args .d)) _ q h))
-
-returns-3 : tie.Need-returns-3
-returns-3 c =
-    let s = c .before .before .before .before .before .before in
-    let w = c .before .before .before .wrong2 in
-    let h = subst (Below (size (s .args .d))) (w .given .1) (s .pre) in
-    λ ws p.
-    let q = c .before .flip-bit2 .ensures (size (s .args .d)) ws p (h .1) in
-    rw (w .given .1) (two-mended (s .args .d) ws (w .given .0 .0) (w .given .0 .1 .0) (eqb (s .args .parity) 0) refl (c .flip-bit3 .ensures (size (s .args .d)) _ q (h .0)))
-
-returns-4 : tie.Need-returns-4
-returns-4 c = λ ws p. rw (c .enum-told2 .given .1) (failed refl)
+    answer-by (a .d) ws number (a .parity) _ _ (omega arith) (s .pre .1) refl refl
+    (λ found.
+    let few = leb-true (number + (number + a .parity) % 2) 2 found in
+    flips-packed (a .place % 64) (a .place / 64 % 64) _ (omega arith) (omega arith) (omega arith)
+    (c .xor-words3 .ensures ∙ ap (bitXor (value (a .word))) joined) p (λ _. last-below (a .d))
+    (second-below n (a .place) (a .parity) (s .pre .1) few (s .pre .2))
+    (first-below n (a .place) (a .parity) (s .pre .1) few (s .pre .2)))
+    (positionsOf (a .place)) refl
 
 pub mend-spec : {M : Type 1} → statement M
 mend-spec =
     tie.close
     (tie.spec
+    add-last
+    add-single
+    cast-single
+    single-requires
+    cast-single-2
+    single-requires-2
     order-of-requires
-    enum-told
-    flip-where-requires
-    enum-known-wrong
-    flip-where-requires-2
-    flip-bit-requires
-    enum-known-wrong-2
-    flip-bit-requires-2
-    flip-bit-requires-3
-    enum-told-2
-    returns
-    returns-2
-    returns-3
-    returns-4)
+    cast-single-3
+    single-requires-3
+    xor-words-requires
+    xor-words-requires-2
+    add-changed
+    xor-words-requires-3
+    returns)

@@ -11,7 +11,7 @@ check-sums-requires c κs = search needs
 returns : tie.Need-returns
 unfolding isCodeword
 returns c = λ ws p.
-    let s = c .before .before .before .check-sums .ensures .2 ws p in
+    let s = c .before .before .before .check-sums .ensures .3 ws p in
     rw (s .parity, s .s1, s .s3)
 
 pub is-codeword-spec : {M : Type 1} → statement M

@@ -45,7 +45,7 @@ returns c =
           let few = is-few ys _ (e .count-erasures .ensures .1 _ ys h) (f .before .if1 .taken) in
           let one = c .before .before .before .counted .ensures .1 _ (f .fill .ensures _ ys h One) in
           let two = c .before .counted2 .ensures .1 _ (f .fill .ensures _ ys h Two) in
-          (few-tried (s .args .d) ys (value (s .args .filling)) few (c .choose .ensures _ ys _ _ h one two), rw few (omega (arith, c .before .before .before .counted .ensures .0, c .before .counted2 .ensures .0))),
+          (few-tried (s .args .d) ys (value (s .args .filling)) few (c .choose .ensures _ ys _ _ h (one .answer) (two .answer)), rw few (omega (arith, c .before .before .before .counted .ensures .0, c .before .counted2 .ensures .0))),
     )
 
 returns-2 : tie.Need-returns-2

@@ -5,7 +5,7 @@ use mathlib.Core.List.{[]}
 use Rattle.line.specs.Bounded.{bounded}
 use Rattle.line.specs.Refusals.{lineTests}
 use borrow.Author.Needs.{needs}
-use Rattle.line.proofs.EntryLaws.{answered-taken, answered-refused}
+use Rattle.line.proofs.EntryLaws.{word-taken, word-refused}
 use Rattle.line.proofs.Refusing.{line-taken}
 use Rattle.line.proofs.entry.bounded_distance.Statement.{statement}
 use Rattle.line.proofs.entry.bounded_distance.Tie as tie
@@ -31,7 +31,7 @@ returns : tie.Need-returns
 returns c =
     let q = c .before .before .before .before .before in
     let s = q .before .before .before .before .before .args in
-    answered-taken (lineTests 1 (s .degree) (s .word .now) []) (s .degree) (λ d. bounded d (s .word .now))
+    word-taken (lineTests 1 (s .degree) (s .word .now) []) (s .degree) (λ d. bounded d (s .word .now))
     (rw (q .call .given .1) at (q .before .before .line-test .ensures)) (c .before .before .bounded-taken .ensures)
 
 same-length-2 : tie.Need-same-length-2
@@ -40,7 +40,7 @@ same-length-2 c = search needs
 returns-2 : tie.Need-returns-2
 returns-2 c =
     let s = c .before .before .before .before .before .before .args in
-    answered-refused (lineTests 1 (s .degree) (s .word .now) []) (s .degree) (λ d. bounded d (s .word .now)) _
+    word-refused (lineTests 1 (s .degree) (s .word .now) []) (s .degree) (λ d. bounded d (s .word .now)) _
     (rw (c .before .call2 .given .1) at (c .before .before .before .line-test .ensures))
 
 pub bounded-distance-spec : {M : Type 1} → statement M

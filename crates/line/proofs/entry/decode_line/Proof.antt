@@ -41,7 +41,7 @@ same-length-2 c = search needs
 returns-2 : tie.Need-returns-2
 returns-2 c =
     let s = c .before .before .before .before .before .before .args in
-    answered-refused (lineTests 2 (s .degree) (s .cells .now) []) (s .degree) (λ d. decode (bounded d) (s .cells .now) (s .filling)) _
+    answered-refused (lineTests 2 (s .degree) (s .cells .now) []) (s .degree) (λ d. decode (bounded d) (s .cells .now) (s .filling)) (c .before .call2 .given .0 .0)
     (rw (c .before .call2 .given .1) at (c .before .before .before .line-test .ensures))
 
 pub decode-line-spec : {M : Type 1} → statement M

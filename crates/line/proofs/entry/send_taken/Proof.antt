@@ -2,18 +2,19 @@
 -- Assumes nothing.
 use mathlib.Core.Path.{sym}
 use borrow.Author.Needs.{needs}
+use Rattle.laws.proofs.Lists.{zeros-at}
 use Rattle.line.proofs.RowLaws.{packable, size-eights, sized}
 use Rattle.line.proofs.entry.send_taken.Statement.{statement}
 use Rattle.line.proofs.entry.send_taken.Tie as tie
 
-line-tables-requires : tie.Need-line-tables-requires
-line-tables-requires c κs = search needs
+put-line-tables-requires : tie.Need-put-line-tables-requires
+put-line-tables-requires c κs = zeros-at 6272
 
 pack-requires : tie.Need-pack-requires
-pack-requires c κs = let s = c .before .before .before .before in packable (s .args .d) (s .pre .0)
+pack-requires c κs = let s = c .before .before .before .before .before in packable (s .args .d) (s .pre .0)
 
 pack-requires-2 : tie.Need-pack-requires-2
-pack-requires-2 c κs = let s = c .before .before .before .before .before in packable (s .args .d) (s .pre .1)
+pack-requires-2 c κs = let s = c .before .before .before .before .before .before in packable (s .args .d) (s .pre .1)
 
 of-number-requires : tie.Need-of-number-requires
 of-number-requires c κs = search needs
@@ -23,7 +24,7 @@ messages-of-requires c κs = search needs
 
 unpack-requires : tie.Need-unpack-requires
 unpack-requires c κs =
-    let s = c .before .before .before .before .before .before .before .before .before .before in
+    let s = c .before .before .before .before .before .before .before .before .before .before .before in
     rw (s .pre .2) (size-eights (s .args .d))
 
 same-length : tie.Need-same-length
@@ -35,11 +36,11 @@ returns c =
     let m = u .before .before in
     let f = m .before .before in
     let k = f .before in
-    let s = k .before .before .before .before .before .before in
+    let s = k .before .before .before .before .before .before .before in
     let y = sized (s .pre .0 .long) (k .before .pack .ensures) in
     let r = sized (s .pre .1 .long) (k .pack2 .ensures) in
     let sent = rw (f .of-number .ensures) at (m .messages-of .ensures .1 _ _ y r) in
     (sent .1, u .unpack .ensures .1 _ (sized (sym (s .pre .2)) (sent .0)))
 
 pub send-taken-spec : {M : Type 1} → statement M
-send-taken-spec = tie.close (tie.spec line-tables-requires pack-requires pack-requires-2 of-number-requires messages-of-requires unpack-requires same-length returns)
+send-taken-spec = tie.close (tie.spec put-line-tables-requires pack-requires pack-requires-2 of-number-requires messages-of-requires unpack-requires same-length returns)

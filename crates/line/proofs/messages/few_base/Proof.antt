@@ -35,27 +35,22 @@ choose-requires c κs = search needs
 or-back-requires : tie.Need-or-back-requires
 or-back-requires c κs = search needs
 
-array-copy-out-trial-of : tie.Need-array-copy-out-trial-of
-array-copy-out-trial-of c = search needs
+array-copy-out-t16 : tie.Need-array-copy-out-t16
+array-copy-out-t16 c = search needs
 
-array-copy-out-trial-of-2 : tie.Need-array-copy-out-trial-of-2
-array-copy-out-trial-of-2 c = search needs
+array-copy-out-t25 : tie.Need-array-copy-out-t25
+array-copy-out-t25 c = search needs
 
-trial-of-requires : tie.Need-trial-of-requires
-trial-of-requires c κs = search needs
+array-copy-out-t29 : tie.Need-array-copy-out-t29
+array-copy-out-t29 c = search needs
 
-array-copy-out-trial-of-3 : tie.Need-array-copy-out-trial-of-3
-array-copy-out-trial-of-3 c = search needs
-
-array-copy-out-trial-of-4 : tie.Need-array-copy-out-trial-of-4
-array-copy-out-trial-of-4 c = search needs
-
-trial-of-requires-2 : tie.Need-trial-of-requires-2
-trial-of-requires-2 c κs = search needs
+array-copy-out-t32 : tie.Need-array-copy-out-t32
+array-copy-out-t32 c = search needs
 
 returns : tie.Need-returns
 returns c =
-    let k = c .before .before .before .before .before .before .before .before in
+    let o = c .before .before .before .before in
+    let k = o .before .before .before .before in
     let first = k .before .before .counted in
     let second = k .counted2 in
     let w = k .before .before .before .before .before .fill .ensures in
@@ -72,12 +67,27 @@ returns c =
             channel = q;
             filling = refl;
             erased = e;
-            own = few-start (a .d) ys f rs few (c .before .before .before .before .before .before .or-back .ensures n ys _ p (c .before .before .before .before .before .before .before .choose .ensures n ys _ _ p one two));
-            one = λ _. c .before .before .before .trial-of .ensures ys rs f One (w n ys p One) (v n rs q One) one;
-            two = λ _. c .trial-of2 .ensures ys rs f Two (w n ys p Two) (v n rs q Two) two;
+            own = few-start (a .d) ys f rs few (o .or-back .ensures n ys _ p (o .before .choose .ensures n ys _ _ p (one .answer) (two .answer)));
+            one = λ _. record { before = w n ys p One; channel = v n rs q One; tried = one };
+            two = λ _. record { before = w n ys p Two; channel = v n rs q Two; tried = two };
             count = rw few (omega (arith, first .ensures .0, second .ensures .0));
           },
     )
 
 pub few-base-spec : {M : Type 1} → statement M
-few-base-spec = tie.close (tie.spec fill-requires fill-requires-2 array-copy-out-counted counted-requires array-copy-out-counted-2 counted-requires-2 choose-requires or-back-requires array-copy-out-trial-of array-copy-out-trial-of-2 trial-of-requires array-copy-out-trial-of-3 array-copy-out-trial-of-4 trial-of-requires-2 returns)
+few-base-spec =
+    tie.close
+    (tie.spec
+    fill-requires
+    fill-requires-2
+    array-copy-out-counted
+    counted-requires
+    array-copy-out-counted-2
+    counted-requires-2
+    choose-requires
+    or-back-requires
+    array-copy-out-t16
+    array-copy-out-t25
+    array-copy-out-t29
+    array-copy-out-t32
+    returns)

@@ -20,7 +20,7 @@ without-requires : tie.Need-without-requires
 without-requires c κs = search needs
 
 returns : tie.Need-returns
-returns c = λ k z. rw (lt-ltb (c .before .before .before .before .before .args .h .far) radius (c .before .if1 .taken))
+returns c = λ k z. rw (lt-ltb (c .before .before .before .before .before .args .h .tried .changed) radius (c .before .if1 .taken))
 
 returns-2 : tie.Need-returns-2
 returns-2 c = λ k z. stays-at (c .before .before .before .before .before .before .args .h) k (c .before .before .before .before .xor-words .ensures) (c .before .xor-words2 .ensures) (c .without .ensures) z

@@ -1,62 +1,41 @@
--- `line::messages::left_of` meets its contract: the mask is narrowed only where the fillings decoded to one codeword.
+-- `line::messages::left_of` meets its contract: no cell is left where one codeword is every message, else those of the masks.
 -- Assumes nothing.
 use mathlib.Core.Path.{sym, _∙_}
-use lib.Dec.{ltb}
-use borrow.Author.Tests.{ltb-true}
+use Prim.Native.Nat.{_-_}
+use native.Mathlib.Omega.{arith}
 use borrow.Author.Needs.{needs}
+use borrow.Author.Tests.{ltb-true}
+use lib.Dec.{ltb}
 use Rattle.laws.proofs.Tests.{and-true}
-use Rattle.degree.specs.Degree.{size}
-use Rattle.line.specs.working.Word.{value}
-use Rattle.line.specs.Cells.{designedDistance}
+use Rattle.line.specs.Cells.{designedDistance, radius}
+use Rattle.line.specs.working.Fillings.{oneCodeword}
 use Rattle.line.proofs.Choosing.{is-few}
-use Rattle.line.proofs.OneCodeword.{own-mask}
+use Rattle.line.proofs.OneCodeword.{quiet-mask}
 use Rattle.line.proofs.messages.left_of.Statement.{statement}
 use Rattle.line.proofs.messages.left_of.Tie as tie
 
-mask-of-requires : tie.Need-mask-of-requires
-mask-of-requires c κs = search needs
+is-quiet-requires : tie.Need-is-quiet-requires
+is-quiet-requires c κs = search needs
 
-one-codeword-requires : tie.Need-one-codeword-requires
-one-codeword-requires c κs = search needs
+zero-word-requires : tie.Need-zero-word-requires
+zero-word-requires c κs = search needs
 
-crowding-requires : tie.Need-crowding-requires
-crowding-requires c κs =
-    let b = c .before .before .before .before .args .b in
-    ltb-true (b .erased) designedDistance (and-true (ltb (b .erased) designedDistance) _ (c .if1 .taken) .0)
-
-leaving-requires : tie.Need-leaving-requires
-leaving-requires c κs = search needs
-
-leaving-requires-2 : tie.Need-leaving-requires-2
-leaving-requires-2 c κs = search needs
-
-or-words-requires : tie.Need-or-words-requires
-or-words-requires c κs = search needs
-
-or-words-requires-2 : tie.Need-or-words-requires-2
-or-words-requires-2 c κs = search needs
-
-and-words-requires : tie.Need-and-words-requires
-and-words-requires c κs = search needs
+masked-of-requires : tie.Need-masked-of-requires
+masked-of-requires c κs = search needs
 
 returns : tie.Need-returns
 returns c =
-    λ ys rs f B.
-    let b = c .before .before .before .before .before .before .before .before .before .before .args .b in
-    let d = c .before .before .before .before .before .before .before .before .before .before .args .d in
-    let t = and-true (ltb (b .erased) designedDistance) _ (c .before .before .before .before .before .before .if1 .taken) in
-    let few = is-few ys (b .erased) (B .erased) (ltb-true (b .erased) designedDistance (t .0)) in
-    let all = c .before .before .before .before .before .before .before .before .before .mask-of in
-    let one = c .before .before .before .before .leaving in
-    let two = c .before .before .before .leaving2 in
-    let full = c .before .before .before .before .before .crowding in
-    rw (c .and-words .ensures, c .before .or-words2 .ensures, c .before .before .or-words .ensures)
-    (own-mask d ys rs f B few (sym (c .before .before .before .before .before .before .before .one-codeword .ensures) ∙ t .1)
-    (value (all .result)) (value (one .result)) (value (two .result)) (value (full .result))
-    (all .ensures ys rs f (B .incoming) (B .channel) (B .erased)) (one .ensures) (two .ensures) (full .ensures (size d) rs (B .channel)))
+    let s = c .before .before .before .args in
+    let b = s .b in
+    let t = and-true _ (oneCodeword b) (sym (c .before .before .is-quiet .ensures) ∙ c .before .if1 .taken) in
+    let u = and-true (ltb (b .erased) (designedDistance - 1)) _ (t .0) in
+    let near = and-true (ltb (b .one .tried .changed) radius) (ltb (b .two .tried .changed) radius) (u .1) in
+    let less = ltb-true (b .erased) (designedDistance - 1) (u .0) in
+    λ ys rs f B. rw (c .zero-word .ensures) (quiet-mask (s .d) ys rs f B (is-few ys (b .erased) (B .erased) (omega (arith, less))) (t .1) less (near .0) (near .1))
 
 returns-2 : tie.Need-returns-2
-returns-2 c = λ ys rs f B. c .before .before .before .mask-of .ensures ys rs f (B .incoming) (B .channel) (B .erased)
+returns-2 c = search needs
 
 pub left-of-spec : {M : Type 1} → statement M
-left-of-spec = tie.close (tie.spec mask-of-requires one-codeword-requires crowding-requires leaving-requires leaving-requires-2 or-words-requires or-words-requires-2 and-words-requires returns returns-2)
+left-of-spec =
+    tie.close (tie.spec is-quiet-requires zero-word-requires masked-of-requires returns returns-2)

@@ -12,7 +12,7 @@ seen-at-requires c κs = search needs
 returns : tie.Need-returns
 returns c =
     λ ys rs f s ly lr hk e H.
-    near-at (c .before .before .before .before .before .args .d) ys rs f _ s _ _ _ (H .tried) (c .before .before .before .before .seen-at .ensures ys rs f s ly lr hk e H .reach) refl refl
+    near-at (c .before .before .before .before .before .args .d) ys rs f _ s _ _ _ (H .tried .answer) (c .before .before .before .before .seen-at .ensures ys rs f s ly lr hk e H .reach) refl refl
 
 pub near-only-spec : {M : Type 1} → statement M
 near-only-spec = tie.close (tie.spec seen-at-requires returns)

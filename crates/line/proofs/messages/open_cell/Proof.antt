@@ -47,7 +47,7 @@ returns c =
           let t = c .before .before .before .before .counted .ensures .1 (filled (a .s) zs f) w in
           let one = c .before .before .before .near-only .ensures ys rs f One ly lr hk e (B .one few) in
           let two = c .before .before .near-only2 .ensures ys rs f Two ly lr hk e (B .two few) in
-          c .answer-at .ensures n zs _ z (c .before .choose-with .ensures n zs _ _ _ z t one two),
+          c .answer-at .ensures n zs _ z (c .before .choose-with .ensures n zs _ _ _ z (t .answer) one two),
     )
 
 pub open-cell-spec : {M : Type 1} → statement M

@@ -4,7 +4,7 @@ use Rattle.line.specs.Bounded.{bounded}
 use Rattle.line.specs.Decoding.{decode}
 use Rattle.pugdrel.specs.working.Numbers.{fits}
 use Rattle.pugdrel.proofs.Handing.{lent-le, lent-length}
-use Rattle.pugdrel.proofs.LineTelling.{line-told}
+use Rattle.pugdrel.proofs.LineTelling.{line-handed}
 use borrow.Author.Needs.{needs}
 use Rattle.pugdrel.proofs.lines.pugdrel_decode_line.Statement.{statement}
 use Rattle.pugdrel.proofs.lines.pugdrel_decode_line.Tie as tie
@@ -40,7 +40,12 @@ returns c =
     let q = t .before .before .before .before in
     let h = q .before .before in
     let s = h .before .before .before .args in
-    line-told 2 (s .degree) (s .cells .now) (λ p d. decode (bounded d) p (s .filling)) (h .lent .result) (h .lent .ensures) (q .decode-line .ensures) (t .tell-found .ensures .0) (t .tell-found .ensures .1)
+    record {
+      answer = q .decode-line .result;
+      done = line-handed 2 (s .degree) (s .cells .now) (λ p d. decode (bounded d) p (s .filling)) (fits 1 (s .report .now)) (h .lent .result) (h .lent .ensures) (q .decode-line .ensures);
+      refusal = t .tell-found .ensures .0;
+      report = t .tell-found .ensures .1;
+    }
 
 pub pugdrel-decode-line-spec : {M : Type 1} → statement M
 pugdrel-decode-line-spec =
