@@ -31,7 +31,7 @@
  * Memory. The caller owns everything. Nothing is allocated, nothing is kept after the return. Slices must not overlap, and
  * uint64_t slices are aligned as uint64_t. No pointer may be null, not even with length 0; nothing is read or written through
  * it then. The library has no data of its own that is written, so that calls from several threads need no lock as long as what
- * they write is lent to one alone. The stack need, as measured, is 18 KiB for pugdrel_decode, 27 KiB for pugdrel_sheet and 14 KiB
+ * they write is lent to one alone. The stack need, as measured, is 17 KiB for pugdrel_decode, 26 KiB for pugdrel_sheet and 13 KiB
  * for a line. Of the C library memcpy and memset are used. */
 #ifndef PUGDREL_H
 #define PUGDREL_H
