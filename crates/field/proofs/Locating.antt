@@ -3,7 +3,7 @@
 use mathlib.Core.Path.{_≡_, refl, sym, _∙_, subst}
 use mathlib.Core.Bool.{Bool, true, false, _&&_}
 use mathlib.Core.Logic.{_≢_}
-use Prim.Native.Nat.{ℕ, _*_}
+use Prim.Native.Nat.{ℕ, _*_, _≤_}
 use native.Mathlib.Omega.{arith}
 use borrow.Author.Tests.{eqb-true, eq-eqb}
 use lib.Dec.{eqb}
@@ -14,7 +14,7 @@ use Rattle.field.specs.declared.locate.Positions.{Positions}
 use Rattle.field.specs.declared.locate.Positions.the-variants.{Zero, One, Two, Unfit}
 use Rattle.degree.specs.Degree.{order}
 use Rattle.field.specs.Field.{power}
-use Rattle.field.specs.working.Positions.{total, fitting, orElse, searched, located}
+use Rattle.field.specs.working.Positions.{total, fitting, orElse, searched, located, usable, Below}
 use Rattle.field.specs.working.Fitting.{Within, Fits}
 use Rattle.field.proofs.Uniqueness.{unique}
 
@@ -120,3 +120,30 @@ module _ (d : Degree) (s1 s3 : ℕ) where
       pick : Dec (located d s1 s3 ≡ Unfit) → located d s1 s3 ≡ Unfit
       pick (yes e) = e
       pick (no e) = absurd (n (located d s1 s3) (located-fits e))
+
+-- located positions are cells
+pub located-below : (d : Degree) (n s1 s3 : ℕ) → order d ≤ n → Below n (located d s1 s3)
+located-below d n s1 s3 h = go (located d s1 s3) (located-fits d s1 s3)
+  where
+    go : (p : Positions) → (p ≢ Unfit → Fits d s1 s3 p) → Below n p
+    go Zero f = tt
+    go (One i) f = let w = f one≢unfit .within in omega arith
+    go (Two i j) f = let w = f two≢unfit .within in (omega arith, omega arith)
+    go Unfit f = tt
+
+-- and so are those of them that can be of use
+pub usable-below : (n : ℕ) (even : Bool) (p : Positions) → Below n p → Below n (usable even p)
+usable-below n true p h = h
+usable-below n false Zero h = tt
+usable-below n false (One i) h = h
+usable-below n false (Two i j) h = tt
+usable-below n false Unfit h = tt
+
+-- what tells two positions from none only where the ones are even in number is the same of the positions that can be of use
+pub usable-same : {A : Type 0} (f : Positions → Bool → A) → ((i j : ℕ) → f Unfit false ≡ f (Two i j) false)
+    → (even : Bool) (p : Positions) → f (usable even p) even ≡ f p even
+usable-same f e true p = refl
+usable-same f e false Zero = refl
+usable-same f e false (One i) = refl
+usable-same f e false (Two i j) = e i j
+usable-same f e false Unfit = refl

@@ -2,15 +2,15 @@
 -- checker computes over the whole table, and one law carries it to each entry.
 -- Assumes nothing.
 use mathlib.Core.Path.{_≡_, refl, sym, ap, ap₂, _∙_, subst}
-use mathlib.Core.Bool.{Bool, true, false, cond, _&&_}
+use mathlib.Core.Bool.{Bool, true, cond, _&&_}
 use mathlib.Core.Logic.{_≢_}
 use mathlib.Core.List.{List, [], _∷_}
 use Prim.Native.Nat.{ℕ, zero, suc, _+_, _*_, _/_, _%_, _<_}
-use native.Mathlib.Nat.{add-zero, zero-add, add-suc, suc-add, mul-zero, mul-suc, mul-le-mul-left, le-of-suc-le-suc, not-suc-le-zero}
+use native.Mathlib.Nat.{add-zero, zero-add, mul-zero, mul-suc, mul-le-mul-left, le-of-suc-le-suc, not-suc-le-zero}
 use native.Mathlib.Omega.{arith}
 use lib.Bits.{bitXor, xor-self, xor-zero-r}
 use lib.Dec.{T, eqb, ltb, eqb→eq, ltb→lt}
-use lib.ListN.{length, getD, drop}
+use lib.ListN.{getD, drop}
 use lib.Seq.{getD-drop, drop-drop}
 use Rattle.laws.proofs.Tests.{and-left, and-right, every, every-at}
 use Rattle.laws.proofs.Xor.{xors}
@@ -20,13 +20,12 @@ use Rattle.degree.specs.Degree.{size, order}
 use Rattle.field.specs.declared.locate.Positions.{Positions}
 use Rattle.field.specs.declared.locate.Positions.the-variants.{Zero, One, Two, Unfit}
 use Rattle.field.specs.Field.{double, timesPower, power}
-use Rattle.field.specs.working.Positions.{total, located, atMostOne}
-use Rattle.field.specs.working.Fitting.{Within, Fits}
+use Rattle.field.specs.working.Positions.{located}
+use Rattle.field.specs.working.Fitting.{Fits}
 use Rattle.field.specs.working.Building.{Copied}
-use Rattle.field.specs.working.Places.{positionsOf, Low, Places}
-use Rattle.field.proofs.Locating.{located-fits, located-is, located-unfit, zero≢unfit, one≢unfit, two≢unfit}
+use Rattle.field.specs.working.Places.{positionsOf, Places}
+use Rattle.field.proofs.Locating.{located-is, located-unfit, zero≢unfit, one≢unfit, two≢unfit}
 use Rattle.field.proofs.Powers.{power-lt, power-pos}
-use Rattle.field.proofs.Primitive.{primitive}
 
 -- an entry that is no mark
 abbrev fit? : ℕ → Bool
@@ -216,29 +215,6 @@ two-entry i j h k =
     let both : (8192 + i + 64 * j) / 64 ≡ 128 + j = omega arith in
     let second : (128 + j) % 64 ≡ j = omega arith in
     (omega arith, rw (number, first, both, second))
-
--- positions that fit have an entry
-pub located-low : (d : Degree) (s1 s3 : ℕ) → Low (located d s1 s3)
-located-low d s1 s3 = go (located d s1 s3) (located-fits d s1 s3)
-  where
-    go : (p : Positions) → (p ≢ Unfit → Fits d s1 s3 p) → Low p
-    go Zero f = tt
-    go (One i) f = let w = f one≢unfit .within in omega (arith, primitive d .room)
-    go (Two i j) f = let w = f two≢unfit .within in (omega (arith, primitive d .room), omega (arith, primitive d .room))
-    go Unfit f = tt
-
--- and so have those of them that are no two
-pub single-low : (p : Positions) → Low p → Low (atMostOne p)
-single-low Zero h = tt
-single-low (One i) h = h
-single-low (Two i j) h = tt
-single-low Unfit h = tt
-
-pub single-twice : (p : Positions) → atMostOne (atMostOne p) ≡ atMostOne p
-single-twice Zero = refl
-single-twice (One i) = refl
-single-twice (Two i j) = refl
-single-twice Unfit = refl
 
 -- a table that is copied behind others is still that table
 pub places-behind : (d : Degree) (at : ℕ) (from a b : List ℕ) → Places d 0 from → Copied at (size d * size d) from a b → Places d at b

@@ -8,9 +8,9 @@ ghost use mathlib.Core.Logic.{_≢_};
 ghost use Prim.Native.Nat.{ℕ, _+_, _*_, _<_};
 ghost use lib.Dec.{eqb};
 ghost use Rattle.degree.specs.Degree.{size, order};
-ghost use Rattle.field.specs.working.Positions.{located, atMostOne, usable};
+ghost use Rattle.field.specs.working.Positions.{located, atMostOne, usable, Below};
 ghost use Rattle.field.specs.working.Fitting.{Second};
-ghost use Rattle.field.specs.working.Places.{positionsOf, Low};
+ghost use Rattle.field.specs.working.Places.{positionsOf};
 ghost use Rattle.field.specs.working.Tables.{Tables};
 
 // Cells below n - 1 that are wrong.
@@ -99,7 +99,7 @@ pub fn locate(d: Degree, s1: u16, s3: u16, tables: &FieldTables) -> Positions
 
 // The entry that stands for positions.
 fn entry_of(positions: Positions) -> u16
-    requires { ⌜ Low positions ⌝ }
+    requires { ⌜ Below 64 positions ⌝ }
     ensures { λ r. ⌜ (r < 16384) × (positionsOf r ≡ positions) ⌝ }
 {
     match positions {

@@ -1,6 +1,6 @@
 -- Bounded-distance decoding in packed words: from the located positions and the parity to the answer.
 -- Assumes nothing.
-use mathlib.Core.Path.{_≡_, refl, sym, ap, ap₂, _∙_, subst}
+use mathlib.Core.Path.{_≡_, refl, sym, ap, _∙_, subst}
 use mathlib.Core.Bool.{Bool, true, false, cond, true≢false}
 use mathlib.Core.Logic.{_≢_}
 use mathlib.Core.List.{List}
@@ -16,15 +16,15 @@ use Rattle.field.specs.Syndrome.{s1, s3, parity}
 use Rattle.field.specs.working.Checks.{IsSyndrome}
 use Rattle.field.specs.working.Fitting.{Fits}
 use Rattle.field.specs.working.Places.{positionsOf}
-use Rattle.field.specs.working.Positions.{located, usable}
+use Rattle.field.specs.working.Positions.{located, usable, Below}
 use Rattle.field.proofs.Primitive.{primitive}
-use Rattle.field.proofs.Locating.{one≢unfit, two≢unfit, located-fits, located-none}
+use Rattle.field.proofs.Locating.{one≢unfit, two≢unfit, located-fits, located-none, located-below, usable-below, usable-same}
 use Rattle.line.specs.declared.bounded.Tried.{Tried}
 use Rattle.line.specs.Cells.{IsWord, flip}
 use Rattle.line.specs.Bounded.{bounded, changed}
 use Rattle.line.specs.working.Packed.{PacksWord}
 use Rattle.line.specs.working.Word.{value}
-use Rattle.line.specs.working.Tries.{failed, found, mended, changes, Below, Mends, Decodes}
+use Rattle.line.specs.working.Tries.{failed, found, mended, changes, Mends, Decodes}
 use Rattle.line.proofs.CellLaws.{distance-self}
 use Rattle.line.proofs.Flips.{flipped-far}
 use Rattle.line.proofs.Mending.{answer-mends}
@@ -32,27 +32,11 @@ use Rattle.line.proofs.Mending.{answer-mends}
 pub last-below : (d : Degree) → order d < size d
 last-below d = omega (arith, primitive d .more)
 
--- located positions are cells
-located-below : (d : Degree) (a b : ℕ) → Below (size d) (located d a b)
-located-below d a b = go (located d a b) (located-fits d a b)
-  where
-    go : (p : Positions) → (p ≢ Unfit → Fits d a b p) → Below (size d) p
-    go Zero f = tt
-    go (One i) f = let w = f one≢unfit .within in omega (arith, last-below d)
-    go (Two i j) f = let w = f two≢unfit .within in (omega (arith, last-below d), omega (arith, last-below d))
-    go Unfit f = tt
-
--- and so are the positions of an entry that can be of use where those of the located ones are
-pub usable-below : (d : Degree) (a b e : ℕ) (even : Bool) → usable even (positionsOf e) ≡ usable even (located d a b)
+-- the positions of an entry that can be of use are cells, where they are those of the located ones
+pub place-below : (d : Degree) (a b e : ℕ) (even : Bool) → usable even (positionsOf e) ≡ usable even (located d a b)
     → Below (size d) (usable even (positionsOf e))
-usable-below d a b e even h = subst (Below (size d)) (sym h) (go even (located d a b) (located-below d a b))
-  where
-    go : (even : Bool) (p : Positions) → Below (size d) p → Below (size d) (usable even p)
-    go true p h = h
-    go false Zero h = tt
-    go false (One i) h = h
-    go false (Two i j) h = tt
-    go false Unfit h = tt
+place-below d a b e even h =
+    subst (Below (size d)) (sym h) (usable-below (size d) even (located d a b) (located-below d (size d) a b (omega (arith, last-below d))))
 
 -- ---- a word mended by an entry of places
 
@@ -134,21 +118,6 @@ changes-is d ws l (Two i j) true f = let w = f two≢unfit .within in sym (flipp
 changes-is d ws l (Two i j) false f = refl
 changes-is d ws l Unfit even f = refl
 
--- what is found, and how many cells are changed, is the same from the positions that can be of use
-usable-mended : (d : Degree) (ws : List ℕ) (even : Bool) (p : Positions) → mended d ws (usable even p) even ≡ mended d ws p even
-usable-mended d ws true p = refl
-usable-mended d ws false Zero = refl
-usable-mended d ws false (One i) = refl
-usable-mended d ws false (Two i j) = refl
-usable-mended d ws false Unfit = refl
-
-usable-changes : (even : Bool) (p : Positions) → changes (usable even p) even ≡ changes p even
-usable-changes true p = refl
-usable-changes false Zero = refl
-usable-changes false (One i) = refl
-usable-changes false (Two i j) = refl
-usable-changes false Unfit = refl
-
 pub tried-bounded : (d : Degree) (e : ℕ) {ws : List ℕ} {w : ℕ} {t : Tried} {s : Syndrome} → PacksWord (size d) ws w → IsSyndrome d ws s
     → usable (eqb (s .parity) 0) (positionsOf e) ≡ usable (eqb (s .parity) 0) (located d (s .s1) (s .s3))
     → Mends d ws (positionsOf e) (eqb (s .parity) 0) t → Decodes d ws t
@@ -159,10 +128,11 @@ tried-bounded d e {ws} {t} {s} q sums g a =
     let l : usable even (positionsOf e) ≡ usable even p = rw (sums .parity, sums .s1, sums .s3) at g in
     let m : Mends d ws (positionsOf e) even t = rw (sums .parity) at a in
     let is : bounded d ws ≡ mended d ws p even = answer-mends d ws (q .cells) p fits (located-none d (s1 d ws) (s3 d ws)) in
+    let found = usable-same (mended d ws) (λ i j. refl) even in
+    let far = usable-same changes (λ i j. refl) even in
     let alike : mended d ws (positionsOf e) even ≡ bounded d ws =
-    sym (usable-mended d ws even (positionsOf e)) ∙ ap (λ (x : Positions). mended d ws x even) l ∙ usable-mended d ws even p ∙ sym is in
-    let number : changes (positionsOf e) even ≡ changes p even =
-    sym (usable-changes even (positionsOf e)) ∙ ap (λ (x : Positions). changes x even) l ∙ usable-changes even p in
+    sym (found (positionsOf e)) ∙ ap (λ (x : Positions). mended d ws x even) l ∙ found p ∙ sym is in
+    let number : changes (positionsOf e) even ≡ changes p even = sym (far (positionsOf e)) ∙ ap (λ (x : Positions). changes x even) l ∙ far p in
     record {
       answer = rw (← alike) (m .answer);
       changed = λ f. m .changed f ∙ number ∙ changes-is d ws (q .cells) p even fits ∙ ap (changed ws) (sym is);

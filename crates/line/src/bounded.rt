@@ -14,11 +14,11 @@ ghost use Prim.Native.Nat.{ℕ, _+_, _<_};
 ghost use lib.Dec.{eqb};
 ghost use Rattle.degree.specs.Degree.{size};
 ghost use Rattle.field.specs.working.Places.{positionsOf};
-ghost use Rattle.field.specs.working.Positions.{usable};
+ghost use Rattle.field.specs.working.Positions.{usable, Below};
 ghost use Rattle.line.specs.working.Word.{value};
 ghost use Rattle.line.specs.working.Packed.{PacksWord};
 ghost use Rattle.line.specs.working.Tables.{TablesOf};
-ghost use Rattle.line.specs.working.Tries.{Below, Mends, Decodes};
+ghost use Rattle.line.specs.working.Tries.{Mends, Decodes};
 
 // What bounded-distance decoding of a word gave: was a codeword found, which, and how many cells were changed. Where none was found,
 // nothing is said of the other two.

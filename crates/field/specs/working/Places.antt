@@ -18,13 +18,6 @@ positionsOf e =
     (cond (eqb (e / 4096) 1) (One (e % 64))
     (cond (eqb (e / 4096) 2) (Two (e % 64) (e / 64 % 64)) Unfit))
 
--- positions that fit the sections of an entry
-abbrev pub Low : Positions → Type 0
-Low Zero = Unit {0}
-Low (One i) = i < 64
-Low (Two i j) = (i < 64) × (j < 64)
-Low Unfit = Unit {0}
-
 -- the entry of the check sums s1 and s3, n times s1 and s3 behind `base`, stands for the positions that fit them
 abbrev pub Places : Degree → ℕ → List ℕ → Type 0
 Places d base t =

@@ -1,7 +1,7 @@
 -- The error positions that belong to the first two check sums s1 and s3: none, one or two cells below n - 1 whose flips
 -- would make both sums 0, or the answer that no such cells fit.
 use mathlib.Core.Bool.{Bool, true, false, _&&_}
-use Prim.Native.Nat.{ℕ, _*_}
+use Prim.Native.Nat.{ℕ, _*_, _<_}
 use lib.Bits.{bitXor}
 use lib.Dec.{eqb}
 use Rattle.laws.specs.Searches.{firstOf}
@@ -52,3 +52,10 @@ atMostOne Unfit = Unfit
 abbrev pub usable : (even : Bool) → Positions → Positions
 usable true p = p
 usable false p = atMostOne p
+
+-- the positions are cells below n
+abbrev pub Below : ℕ → Positions → Type 0
+Below n Zero = Unit {0}
+Below n (One i) = i < n
+Below n (Two i j) = (i < n) × (j < n)
+Below n Unfit = Unit {0}

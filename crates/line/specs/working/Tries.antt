@@ -3,7 +3,7 @@
 use mathlib.Core.Path.{_≡_}
 use mathlib.Core.Bool.{Bool, true, false}
 use mathlib.Core.List.{List}
-use Prim.Native.Nat.{ℕ, _<_}
+use Prim.Native.Nat.{ℕ}
 use Rattle.degree.specs.declared.Degree.{Degree}
 use Rattle.field.specs.declared.locate.Positions.{Positions}
 use Rattle.field.specs.declared.locate.Positions.the-variants.{Zero, One, Two, Unfit}
@@ -34,13 +34,6 @@ changes (One i) false = 1
 changes (Two i j) true = 2
 changes (Two i j) false = 0
 changes Unfit even = 0
-
--- the positions are cells below n
-abbrev pub Below : ℕ → Positions → Type 0
-Below n Zero = Unit {0}
-Below n (One i) = i < n
-Below n (Two i j) = (i < n) × (j < n)
-Below n Unfit = Unit {0}
 
 -- what was tried gave this answer
 pub data Answers (n : ℕ) : Answer → Tried → Type 0 where

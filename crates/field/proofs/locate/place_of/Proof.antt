@@ -1,12 +1,12 @@
 -- `locate::place_of` meets its contract: the entry of what is searched, as far as it can be of use, or that of the table.
 -- Assumes nothing.
-use mathlib.Core.Path.{sym, ap, _∙_, subst}
+use mathlib.Core.Path.{refl, sym, ap, _∙_, subst}
+use mathlib.Core.Bool.{false}
 use native.Mathlib.Omega.{arith}
 use lib.Dec.{eqb}
-use Rattle.field.specs.working.Positions.{located, atMostOne, usable}
-use Rattle.field.specs.working.Places.{Low}
-use Rattle.field.specs.working.Tables.{Placed}
-use Rattle.field.proofs.PlaceTable.{located-low, single-low, single-twice}
+use Rattle.field.specs.working.Positions.{located, usable, Below}
+use Rattle.field.proofs.Primitive.{primitive}
+use Rattle.field.proofs.Locating.{located-below, usable-below, usable-same}
 use borrow.Author.Needs.{needs}
 use borrow.Author.Tests.{ne-eqb}
 use Rattle.field.proofs.locate.place_of.Statement.{statement}
@@ -21,7 +21,7 @@ locate-requires c κs = search needs
 entry-of-requires : tie.Need-entry-of-requires
 entry-of-requires c κs =
     let a = c .before .before .before .before .args in
-    subst Low (sym (c .locate .ensures)) (located-low (a .d) (a .s1) (a .s3))
+    subst (Below 64) (sym (c .locate .ensures)) (located-below (a .d) 64 (a .s1) (a .s3) (omega (arith, primitive (a .d) .room)))
 
 locate-single-requires : tie.Need-locate-single-requires
 locate-single-requires c κs = search needs
@@ -29,7 +29,8 @@ locate-single-requires c κs = search needs
 entry-of-requires-2 : tie.Need-entry-of-requires-2
 entry-of-requires-2 c κs =
     let a = c .before .before .before .before .args in
-    subst Low (sym (c .locate-single .ensures)) (single-low (located (a .d) (a .s1) (a .s3)) (located-low (a .d) (a .s1) (a .s3)))
+    let p = located (a .d) (a .s1) (a .s3) in
+    subst (Below 64) (sym (c .locate-single .ensures)) (usable-below 64 false p (located-below (a .d) 64 (a .s1) (a .s3) (omega (arith, primitive (a .d) .room))))
 
 enum-told-2 : tie.Need-enum-told-2
 enum-told-2 c = search needs
@@ -59,7 +60,7 @@ returns-2 c =
     let a = c .before .before .before .before .before .args in
     let is = c .entry-of2 .ensures .1 ∙ c .before .locate-single .ensures in
     let odd = ne-eqb (a .parity) 0 (c .before .before .if1 .left) in
-    (c .entry-of2 .ensures .0, rw odd (ap atMostOne is ∙ single-twice (located (a .d) (a .s1) (a .s3))))
+    (c .entry-of2 .ensures .0, rw odd (ap (usable false) is ∙ usable-same (λ p even. usable even p) (λ i j. refl) false (located (a .d) (a .s1) (a .s3))))
 
 returns-3 : tie.Need-returns-3
 returns-3 c =
