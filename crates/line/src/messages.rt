@@ -293,7 +293,7 @@ fn mask_of(d: Degree, y: Line, r: Line, erased: u32) -> Word
 
 // The cells that are settled one by one, by masks. Where both fillings decoded to one codeword, it is the message of each cell at
 // which it stays in reach of both, and it is the base line.
-fn masked_of(d: Degree, b: Base) -> Word
+fn left_by_masks(d: Degree, b: Base) -> Word
     ensures { λ m. ⌜ ((ys rs : List ℕ) (f : ℕ) → Based d ys rs f b → Masks d ys rs f (value m)) ⌝ }
 {
     let all = mask_of(d, b.incoming, b.channel, b.erased);
@@ -326,7 +326,7 @@ fn left_of(d: Degree, b: Base) -> Word
     if is_quiet(b) {
         zero_word()
     } else {
-        masked_of(d, b)
+        left_by_masks(d, b)
     }
 }
 

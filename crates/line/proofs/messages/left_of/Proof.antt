@@ -20,8 +20,8 @@ is-quiet-requires c κs = search needs
 zero-word-requires : tie.Need-zero-word-requires
 zero-word-requires c κs = search needs
 
-masked-of-requires : tie.Need-masked-of-requires
-masked-of-requires c κs = search needs
+left-by-masks-requires : tie.Need-left-by-masks-requires
+left-by-masks-requires c κs = search needs
 
 returns : tie.Need-returns
 returns c =
@@ -38,4 +38,4 @@ returns-2 c = search needs
 
 pub left-of-spec : {M : Type 1} → statement M
 left-of-spec =
-    tie.close (tie.spec is-quiet-requires zero-word-requires masked-of-requires returns returns-2)
+    tie.close (tie.spec is-quiet-requires zero-word-requires left-by-masks-requires returns returns-2)

@@ -1,4 +1,4 @@
--- `line::messages::masked_of` meets its contract: the mask is narrowed only where the fillings decoded to one codeword.
+-- `line::messages::left_by_masks` meets its contract: the mask is narrowed only where the fillings decoded to one codeword.
 -- Assumes nothing.
 use mathlib.Core.Path.{sym, _∙_}
 use lib.Dec.{ltb}
@@ -10,8 +10,8 @@ use Rattle.line.specs.working.Word.{value}
 use Rattle.line.specs.Cells.{designedDistance}
 use Rattle.line.proofs.Choosing.{is-few}
 use Rattle.line.proofs.OneCodeword.{own-mask}
-use Rattle.line.proofs.messages.masked_of.Statement.{statement}
-use Rattle.line.proofs.messages.masked_of.Tie as tie
+use Rattle.line.proofs.messages.left_by_masks.Statement.{statement}
+use Rattle.line.proofs.messages.left_by_masks.Tie as tie
 
 mask-of-requires : tie.Need-mask-of-requires
 mask-of-requires c κs = search needs
@@ -58,5 +58,5 @@ returns c =
 returns-2 : tie.Need-returns-2
 returns-2 c = λ ys rs f B. c .before .before .before .mask-of .ensures ys rs f (B .incoming) (B .channel) (B .erased)
 
-pub masked-of-spec : {M : Type 1} → statement M
-masked-of-spec = tie.close (tie.spec mask-of-requires one-codeword-requires crowding-requires leaving-requires leaving-requires-2 or-words-requires or-words-requires-2 and-words-requires returns returns-2)
+pub left-by-masks-spec : {M : Type 1} → statement M
+left-by-masks-spec = tie.close (tie.spec mask-of-requires one-codeword-requires crowding-requires leaving-requires leaving-requires-2 or-words-requires or-words-requires-2 and-words-requires returns returns-2)
