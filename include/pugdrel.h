@@ -52,9 +52,9 @@
 extern "C" {
 #endif
 
-/* The version of this header: 1000000 times the first number, 1000 times the second, and the third. It is 1.0.0. The first grows
+/* The version of this header: 1000000 times the first number, 1000 times the second, and the third. It is 2.0.0. The first grows
  * where a call changes: a program is to compare it with pugdrel_version() where header and library may come apart. */
-#define PUGDREL_VERSION 1000000
+#define PUGDREL_VERSION 2000000
 
 /* The version of the library. */
 PUGDREL_NODISCARD
@@ -98,7 +98,7 @@ static inline const char *pugdrel_refusal_text(uint64_t number)
 enum pugdrel_decode_report {
     PUGDREL_COUNT = 0,  /* bounded-distance decodings counted over all lines */
     PUGDREL_UNSURE = 1, /* cells still unsure */
-    PUGDREL_CLOSED = 2, /* 1 where no cell is unsure and every column is a codeword, else 0 */
+    PUGDREL_CLOSED = 2, /* 1 where no cell is unsure and each row and each column is a codeword, else 0 */
     PUGDREL_DECODE_REPORT = 3
 };
 
@@ -107,8 +107,9 @@ enum pugdrel_decode_report {
  * received: n * n cells. filling: PUGDREL_FILLING_WORDS(iterations, n) words, in order of halves and then of lines.
  * cells: n * n, written only; what they held is not tested. report: 3 numbers.
  * Where in every received row twice the wrong cells plus the unsure ones is below 6, against an array that was sent, the cells
- * are that array's and closed is 1. Closed alone does not tell that: it says that the array is one of the code's by its columns,
- * not that it is the one that was sent. Refusals: 1, 2, 3, 4. */
+ * are that array's and closed is 1. Closed alone does not tell that: it says that the cells are one of the code's arrays, which
+ * pugdrel_encode gives for some message, and not that they are the one that was sent. Where closed is 0, no message has them.
+ * Refusals: 1, 2, 3, 4. */
 PUGDREL_NODISCARD
 uint64_t pugdrel_decode(uint64_t degree, uint64_t iterations, const uint8_t *received, size_t received_len,
                         const uint64_t *filling, size_t filling_len, uint8_t *cells, size_t cells_len, uint64_t *report,

@@ -9,7 +9,7 @@ use crate::call::{Call, Entry, Outcome, Side};
 use crate::calls::random_call;
 use crate::damage;
 use crate::fast::{Decoder, Effort};
-use crate::plain::Degree;
+use crate::plain::{Code, Degree, Half, UNSURE, erasures};
 use crate::random::Random;
 
 /// Makes random calls on both sides until one differs, and says at the end how many were made of each kind.
@@ -153,6 +153,8 @@ struct Tally {
     closed: u64,
     count: u64,
     two_a_line: u64,
+    /// Those that ended with one test of closed failed alone: rows, columns, unsure cells.
+    almost_closed: [u64; 3],
 }
 
 impl Tally {
@@ -165,6 +167,9 @@ impl Tally {
             self.closed += outcome.after.report[2];
             self.count += outcome.after.report[0];
             self.two_a_line += 2 * lines;
+            if let Some(test) = failed_alone(call.degree, &outcome.after.output) {
+                self.almost_closed[test] += 1;
+            }
         }
     }
 
@@ -180,7 +185,27 @@ impl Tally {
             "Of {taken} decodings, {} closed; counts sum to {}, where 2 a line would be {}.",
             self.closed, self.count, self.two_a_line
         );
+        let [rows, columns, unsure] = self.almost_closed;
+        println!(
+            "Of the others, {rows} with good columns and rows off, {columns} with good rows and columns off, \
+             {unsure} with good lines and unsure cells."
+        );
     }
+}
+
+/// Which of the three tests of closed is the only one that an array fails, if one is: 0 for rows, 1 for columns, 2 for unsure cells,
+/// which are read as 0 in the lines.
+fn failed_alone(degree: u64, cells: &[u8]) -> Option<usize> {
+    let code = Code::of(Degree::named(degree)?);
+    let ones: Vec<u8> = cells.iter().map(|&cell| cell % UNSURE).collect();
+    let failed = [
+        !code.has_codewords(&ones, Half::Rows),
+        !code.has_codewords(&ones, Half::Columns),
+        erasures(cells) > 0,
+    ];
+    let mut tests = (0..failed.len()).filter(|&test| failed[test]);
+    let first = tests.next();
+    first.filter(|_| tests.next().is_none())
 }
 
 /// How far a run has come, on standard error: now and then a line, or on a terminal a line that is overwritten.

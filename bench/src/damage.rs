@@ -49,6 +49,12 @@ pub enum Damage {
     Noise,
     /// The same with few unsure cells.
     KnownNoise,
+    /// Each column is a codeword, and rows are off in a way that decoding mostly leaves.
+    RowsOff,
+    /// Each row is a codeword, and columns are off.
+    ColumnsOff,
+    /// Each row and each column is a codeword with its unsure cells read as 0, and there are so many that they stay.
+    UnsureLeft,
 }
 
 /// A received array with a random kind of damage.
@@ -59,7 +65,7 @@ pub fn received(code: &Code, random: &mut Random) -> Vec<u8> {
 }
 
 impl Damage {
-    pub const ALL: [Damage; 16] = [
+    pub const ALL: [Damage; 19] = [
         Damage::None,
         Damage::FewWrong,
         Damage::ManyWrong,
@@ -76,6 +82,9 @@ impl Damage {
         Damage::Blob,
         Damage::Noise,
         Damage::KnownNoise,
+        Damage::RowsOff,
+        Damage::ColumnsOff,
+        Damage::UnsureLeft,
     ];
 
     /// What it is called in a table.
@@ -97,6 +106,9 @@ impl Damage {
             Damage::Blob => "a block of wrong and unsure",
             Damage::Noise => "any cells",
             Damage::KnownNoise => "any bits, some unsure",
+            Damage::RowsOff => "good columns, rows off",
+            Damage::ColumnsOff => "good rows, columns off",
+            Damage::UnsureLeft => "good lines, cells unsure",
         }
     }
 
@@ -127,6 +139,9 @@ impl Damage {
                 let cells = random.bits(all);
                 hit(&cells, 0, random.below(4 * n), random)
             }
+            Damage::RowsOff => rows_off(sent, code, random),
+            Damage::ColumnsOff => transposed(&rows_off(transposed(&sent, n), code, random), n),
+            Damage::UnsureLeft => unsure_left(code, random),
         }
     }
 }
@@ -137,8 +152,7 @@ pub fn line(code: &Code, random: &mut Random) -> Vec<u8> {
     if random.one_in(12) {
         return (0..n).map(|_| random.below(3) as u8).collect();
     }
-    let mut sent = random.bits(n);
-    code.encode_line(&mut sent);
+    let sent = codeword(code, random);
     if random.one_in(3) {
         return between(code, &sent, random);
     }
@@ -253,6 +267,47 @@ fn blob(mut cells: Vec<u8>, n: usize, random: &mut Random) -> Vec<u8> {
         }
     }
     cells
+}
+
+/// One wrong pattern of four cells in each row in which a codeword holds 1: each column is changed by that codeword or not at
+/// all, so that it is a codeword still.
+fn rows_off(mut cells: Vec<u8>, code: &Code, random: &mut Random) -> Vec<u8> {
+    let n = code.n();
+    let down = codeword(code, random);
+    let columns = random.places(4, n);
+    for row in (0..n).filter(|&row| down[row] == 1) {
+        columns
+            .iter()
+            .for_each(|column| cells[n * row + column] ^= 1);
+    }
+    cells
+}
+
+/// A codeword across in each row in which one holds 1, and zeros in the others, with 6 or more of them unsure.
+fn unsure_left(code: &Code, random: &mut Random) -> Vec<u8> {
+    let n = code.n();
+    let (down, across) = (codeword(code, random), codeword(code, random));
+    let mut empty = vec![0; n];
+    let unsure = random.between(TOO_MANY, n);
+    random
+        .places(unsure, n)
+        .iter()
+        .for_each(|&cell| empty[cell] = UNSURE);
+    down.iter()
+        .flat_map(|&cell| {
+            if cell == 1 {
+                across.clone()
+            } else {
+                empty.clone()
+            }
+        })
+        .collect()
+}
+
+fn codeword(code: &Code, random: &mut Random) -> Vec<u8> {
+    let mut word = random.bits(code.n());
+    code.encode_line(&mut word);
+    word
 }
 
 fn transposed(cells: &[u8], n: usize) -> Vec<u8> {

@@ -11,6 +11,7 @@ pub mod entries;
 pub mod line;
 pub mod text;
 
+pub use array::Half;
 pub use code::{Code, Degree};
 
 /// A cell that is neither 0 nor 1: the receiver was not sure of it.

@@ -100,6 +100,34 @@ fn a_message_goes_there_and_back() {
     }
 }
 
+/// Arrays of degree 4 that decoding leaves as they are: with good columns and six rows off, with good rows and six columns off, and
+/// with zeros in every known cell and unsure ones.
+#[test]
+fn closed_asks_for_rows_columns_and_known_cells() {
+    let g = [0, 4, 6, 7, 8, 15];
+    let off = 0..4;
+    let made = |there: &dyn Fn(usize, usize) -> bool, cell: u8| -> Vec<u8> {
+        let cells = (0..256).map(|place| (place / 16, place % 16));
+        cells
+            .map(|(row, column)| if there(row, column) { cell } else { 0 })
+            .collect()
+    };
+    let good_columns = |row: usize, column: usize| g.contains(&row) && off.contains(&column);
+    let good_rows = |row: usize, column: usize| good_columns(column, row);
+    let square = |row: usize, column: usize| g.contains(&row) && g.contains(&column);
+    for (received, left) in [
+        (made(&good_columns, 1), (0, false)),
+        (made(&good_rows, 1), (0, false)),
+        (made(&square, UNSURE), (36, false)),
+        (made(&square, 1), (0, true)),
+    ] {
+        let mut cells = vec![9; 256];
+        let report = pugdrel::decode(4, 2, &received, &[0; 64], &mut cells).unwrap();
+        assert_eq!(cells, received);
+        assert_eq!((report.erasures, report.closed), left);
+    }
+}
+
 #[test]
 fn refusals_have_their_numbers_and_change_nothing() {
     let (good, bad) = (vec![0u8; 256], vec![3u8; 256]);

@@ -70,6 +70,30 @@ static void round_trip(uint64_t degree, size_t n, size_t k)
            (int)damaged, (int)(n * n), (int)report[PUGDREL_COUNT], (int)(k * k));
 }
 
+/* ---- Closed: arrays of degree 4 that decoding leaves as they are. */
+
+/* The cells in the rows of one mask and the columns of another, bit i for line i, are `cell`, all others 0. */
+static void stays(unsigned rows, unsigned columns, uint8_t cell, uint64_t unsure, uint64_t closed, const char *what)
+{
+    const size_t n = PUGDREL_N4;
+    uint64_t report[PUGDREL_DECODE_REPORT] = {7, 7, 7};
+    size_t i;
+    for (i = 0; i < n * n; i++) received[i] = (rows >> i / n & columns >> i % n & 1) ? cell : 0;
+    check(pugdrel_decode(4, 1, received, n * n, filling, PUGDREL_FILLING_WORDS(1, n), cells, n * n, report, PUGDREL_DECODE_REPORT)
+              == PUGDREL_OK, what);
+    check(memcmp(cells, received, n * n) == 0, what);
+    check(report[PUGDREL_COUNT] == (unsure ? 40 : 64) && report[PUGDREL_UNSURE] == unsure && report[PUGDREL_CLOSED] == closed, what);
+}
+
+static void closing(void)
+{
+    const unsigned codeword = 0x81d1, off = 0x000f; /* no codeword is nearer than 4 to the second */
+    stays(codeword, codeword, 1, 0, 1, "codewords in rows and columns: closed");
+    stays(codeword, off, 1, 0, 0, "good columns and six rows off: not closed");
+    stays(off, codeword, 1, 0, 0, "good rows and six columns off: not closed");
+    stays(codeword, codeword, 2, 36, 0, "zeros in rows and columns but for unsure cells: not closed");
+}
+
 /* ---- Refusals: the first test that fails, zeros in the report, and nothing else changed. */
 
 /* A call of decode at degree 4 with one thing wrong; it is refused as `number`. */
@@ -233,6 +257,7 @@ int main(void)
     check(pugdrel_version() == PUGDREL_VERSION, "the library is of the header's version");
     round_trip(4, PUGDREL_N4, PUGDREL_K4);
     round_trip(6, PUGDREL_N6, PUGDREL_K6);
+    closing();
     refusals();
     words_of_refusals();
     rows();

@@ -90,9 +90,14 @@ impl Tables {
         self.mends[usize::from(sums) % PLACES]
     }
 
+    /// Is each of these rows and each column a codeword?
+    pub fn are_closed(&self, rows: &[u64]) -> bool {
+        rows.iter().all(|&row| self.sums(row) == 0) && self.has_codeword_columns(rows)
+    }
+
     /// Is every column of these rows a codeword? Row i adds to the sums of all columns in which it holds 1, so each bit
     /// of the sums is gathered for all columns at once.
-    pub fn has_codeword_columns(&self, rows: &[u64]) -> bool {
+    fn has_codeword_columns(&self, rows: &[u64]) -> bool {
         let mut by_bit = [0u64; 13];
         for (&row, &sums) in rows.iter().zip(&self.by_cell) {
             for (bit, columns) in by_bit.iter_mut().enumerate() {

@@ -10,7 +10,7 @@ pub struct Report {
     pub count: u64,
     /// The cells still unsure.
     pub erasures: u64,
-    /// No cell unsure and every column a codeword.
+    /// No cell is unsure and each row and each column is a codeword.
     pub closed: bool,
 }
 
@@ -19,9 +19,9 @@ fn line_of(cells: &[u8], n: usize, half: Half, index: usize) -> Vec<u8> {
     (0..n).map(|k| cells[half.place(n, index, k)]).collect()
 }
 
-/// The two kinds of halves.
-#[derive(Clone, Copy)]
-enum Half {
+/// The two kinds of halves, and of lines.
+#[derive(Clone, Copy, Debug)]
+pub enum Half {
     Rows,
     Columns,
 }
@@ -97,16 +97,17 @@ impl Code {
         (cells, report)
     }
 
-    /// "No cell unsure and every column a codeword."
+    /// "No cell is unsure and each row and each column is a codeword."
     pub fn is_closed(&self, cells: &[u8]) -> bool {
-        let n = self.n();
-        (0..n).all(|index| self.is_codeword(&line_of(cells, n, Half::Columns, index)))
+        erasures(cells) == 0
+            && self.has_codewords(cells, Half::Rows)
+            && self.has_codewords(cells, Half::Columns)
     }
 
-    /// Is every row of the array a codeword too?
-    pub fn has_codeword_rows(&self, cells: &[u8]) -> bool {
+    /// Is each row, or each column, a codeword?
+    pub fn has_codewords(&self, cells: &[u8], half: Half) -> bool {
         let n = self.n();
-        (0..n).all(|index| self.is_codeword(&line_of(cells, n, Half::Rows, index)))
+        (0..n).all(|index| self.is_codeword(&line_of(cells, n, half, index)))
     }
 
     /// The condition of demand 3: in each row, twice the wrong known cells plus the unsure ones is below 6.

@@ -3,6 +3,7 @@
 use super::clauses::Clause;
 use super::line::{filled_words, known_differences, replaced};
 use super::*;
+use crate::damage::{self, Damage};
 use crate::random::Random;
 
 /// "G has ones at 0, 4, 6, 7, 8, 15."
@@ -116,7 +117,7 @@ fn message_lengths_are_7_and_51() {
 }
 
 #[test]
-fn an_encoded_array_holds_its_message_and_is_closed_both_ways() {
+fn an_encoded_array_holds_its_message_and_is_closed() {
     let mut random = Random::new(3);
     for degree in Degree::ALL {
         let code = Code::of(degree);
@@ -125,7 +126,37 @@ fn an_encoded_array_holds_its_message_and_is_closed_both_ways() {
             let cells = code.encode(&message);
             assert_eq!(code.extract(&cells), message);
             assert!(code.is_closed(&cells));
-            assert!(code.has_codeword_rows(&cells));
+        }
+    }
+}
+
+/// Arrays that fail one of the three tests of closed alone.
+#[test]
+fn closed_asks_for_rows_columns_and_known_cells() {
+    let mut random = Random::new(9);
+    for degree in Degree::ALL {
+        let code = Code::of(degree);
+        for _ in 0..20 {
+            let mut made = |damage: Damage| {
+                let sent = damage::sent(code, &mut random);
+                damage.done_to(sent, code, &mut random)
+            };
+            let rows_off = made(Damage::RowsOff);
+            assert!(code.has_codewords(&rows_off, Half::Columns));
+            assert_eq!(
+                code.is_closed(&rows_off),
+                code.has_codewords(&rows_off, Half::Rows)
+            );
+            let columns_off = made(Damage::ColumnsOff);
+            assert!(code.has_codewords(&columns_off, Half::Rows));
+            assert_eq!(
+                code.is_closed(&columns_off),
+                code.has_codewords(&columns_off, Half::Columns)
+            );
+            let unsure: Vec<u8> = made(Damage::UnsureLeft);
+            let ones: Vec<u8> = unsure.iter().map(|&cell| cell % UNSURE).collect();
+            assert!(code.is_closed(&ones));
+            assert_eq!(code.is_closed(&unsure), erasures(&unsure) == 0);
         }
     }
 }

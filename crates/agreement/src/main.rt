@@ -2,8 +2,10 @@
 // made by chance. It prints totals: one disagreement changes them, and so does any change of a result.
 use array::entry::DecodeAnswer;
 use damage::arrays::KINDS;
+use damage::arrays::NEAR_KINDS;
 use damage::arrays::ROWS_WITHIN;
 use damage::arrays::damage_array;
+use damage::arrays::make_near;
 use damage::arrays::make_sent;
 use damage::chance::below;
 use damage::chance::filling_word;
@@ -16,8 +18,10 @@ use line::entry::LineAnswer;
 use line::entry::MessagesAnswer;
 use line::entry::WordAnswer;
 use second::arrays::Cells;
+use second::arrays::Faults;
 use second::arrays::area_of;
-use second::arrays::columns_of;
+use second::arrays::faults_in;
+use second::arrays::is_closed;
 use second::arrays::put_line;
 use second::arrays::take_line;
 use second::codewords::Attempt;
@@ -30,6 +34,7 @@ use second::encoding::extract;
 use second::encoding::message_area;
 use second::lines::differences;
 use second::lines::messages;
+use second::tallies::ALMOST_CLOSED;
 use second::tallies::BOUNDED_DISTANCE;
 use second::tallies::CLAUSES;
 use second::tallies::DECODE_LINE;
@@ -320,6 +325,16 @@ struct Outcome {
     cells: Cells,
 }
 
+// Arrays that fail one of the tests of closed alone: rows are off, or columns, or cells unsure.
+fn note_faults(left: Faults, tally: &mut Totals) {
+    let known = left.unsure == 0;
+    let across = left.rows == 0;
+    let down = left.columns == 0;
+    tick_if(tally, ALMOST_CLOSED, known & !across & down);
+    tick_if(tally, ALMOST_CLOSED + 1, known & across & !down);
+    tick_if(tally, ALMOST_CLOSED + 2, !known & across & down);
+}
+
 fn own_decoding(
     n: usize,
     weights: &Weights,
@@ -333,12 +348,12 @@ fn own_decoding(
     let mut cells = received;
     let many = words_of(n, iterations);
     let count = second::arrays::decode(n, weights, &received, filling, many, &mut cells, tally);
-    let columns = columns_of(n, weights, &cells);
-    let closed = (columns.unsure == 0) & (columns.bad == 0);
+    let left = faults_in(n, weights, &cells);
+    note_faults(left, tally);
     Outcome {
         count: count,
-        unsure: columns.unsure,
-        closed: closed,
+        unsure: left.unsure,
+        closed: is_closed(left),
         cells: cells,
     }
 }
@@ -399,29 +414,59 @@ fn note_decoding(kind: usize, sent: &Cells, own: Outcome, given: Outcome, tally:
     );
 }
 
-// One array: sent, damaged in one of the ways, and decoded twice with filling bits of zero, of one, or by chance.
+// A received array decoded twice, with filling bits of zero, of one, or by chance.
+fn test_received(
+    n: usize,
+    weights: &Weights,
+    trial: usize,
+    kind: usize,
+    sent: &Cells,
+    received: Cells,
+    state: &mut u64,
+    tally: &mut Totals,
+)
+    requires { ⌜ (0 < n) × (n ≤ 64) ⌝ }
+{
+    let iterations = iterations_of(n, trial);
+    let mut filling = [0u64; 2560];
+    make_filling(trial / KINDS % 3, state, &mut filling);
+    let own = own_decoding(n, weights, received, &filling, iterations, tally);
+    let given = given_decoding(n, received, filling, iterations);
+    note_decoding(kind, sent, own, given, tally);
+}
+
+// One array, sent and damaged in one of the ways.
 fn test_array(n: usize, weights: &Weights, trial: usize, state: &mut u64, tally: &mut Totals)
     requires { ⌜ (13 < n) × (n ≤ 64) ⌝ }
 {
     let kind = trial % KINDS;
-    let iterations = iterations_of(n, trial);
-    let mut filling = [0u64; 2560];
     let mut sent = [0u8; 4096];
     make_sent(n, state, &mut sent);
     let mut received = sent;
     damage_array(n, kind, state, &mut received);
-    make_filling(trial / KINDS % 3, state, &mut filling);
-    let own = own_decoding(n, weights, received, &filling, iterations, tally);
-    let given = given_decoding(n, received, filling, iterations);
-    note_decoding(kind, &sent, own, given, tally);
+    test_received(n, weights, trial, kind, &sent, received, state, tally);
 }
 
-fn test_decoding(n: usize, weights: &Weights, many: usize, tally: &mut Totals)
+// One array that passes some of the tests of closed only. It counts as restored where decoding leaves it as it was received.
+fn test_near(n: usize, weights: &Weights, trial: usize, state: &mut u64, tally: &mut Totals)
+    requires { ⌜ (13 < n) × (n ≤ 64) ⌝ }
+{
+    let mut sent = [0u8; 4096];
+    make_near(n, trial % NEAR_KINDS, state, &mut sent);
+    let received = sent;
+    test_received(n, weights, trial, KINDS, &sent, received, state, tally);
+}
+
+fn test_decoding(near: bool, n: usize, weights: &Weights, many: usize, tally: &mut Totals)
     requires { ⌜ (13 < n) × (n ≤ 64) ⌝ }
 {
     let mut state: u64 = 2463534242;
     for trial in 0..many {
-        test_array(n, weights, trial, &mut state, tally);
+        if near {
+            test_near(n, weights, trial, &mut state, tally);
+        } else {
+            test_array(n, weights, trial, &mut state, tally);
+        }
     }
 }
 
@@ -540,15 +585,16 @@ fn run_check_sums(n: usize, weights: &Weights)
     );
 }
 
-fn run_decoding(n: usize, weights: &Weights, many: usize)
+fn run_decoding(near: bool, n: usize, weights: &Weights, many: usize, line: &[u8])
     requires { ⌜ (13 < n) × (n ≤ 64) ⌝ }
 {
     let mut tally = [0u64; 32];
-    test_decoding(n, weights, many, &mut tally);
+    test_decoding(near, n, weights, many, &mut tally);
+    say(line, &tally, 0);
     say(
-        b"decode: # arrays, # agree, # differ, sum #; # closed, # restored; # within the row condition, # of them restored and closed\n",
+        b"almost closed: # with good columns and rows off, # with good rows and columns off, # with good lines and unsure cells\n",
         &tally,
-        0,
+        ALMOST_CLOSED,
     );
     say_clauses(&tally);
 }
@@ -593,7 +639,20 @@ fn run_line_entries(n: usize, weights: &Weights, many: usize)
 fn run_array_entries(n: usize, weights: &Weights, many: usize)
     requires { ⌜ (13 < n) × (n ≤ 64) ⌝ }
 {
-    run_decoding(n, weights, many);
+    run_decoding(
+        false,
+        n,
+        weights,
+        many,
+        b"decode: # arrays, # agree, # differ, sum #; # closed, # restored; # within the row condition, # of them restored and closed\n",
+    );
+    run_decoding(
+        true,
+        n,
+        weights,
+        many,
+        b"decode, nearly closed: # arrays, # agree, # differ, sum #; # closed, # left as received\n",
+    );
     run_others(
         ENCODE,
         n,

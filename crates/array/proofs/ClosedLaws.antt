@@ -1,4 +1,4 @@
--- Closed says no less and no more than document 01: no cell is unsure, and every column is a codeword.
+-- Closed says no less and no more than document 02: no cell is unsure, and each row and each column is a codeword.
 -- Assumes nothing.
 use mathlib.Core.Path.{_≡_, refl, sym, ap, ap₂, _∙_}
 use mathlib.Core.Bool.{Bool, true, false, _&&_, true≢false}
@@ -9,23 +9,18 @@ use native.Mathlib.Omega.{arith}
 use borrow.Author.Tests.{eq-eqb, eqb-true}
 use lib.Dec.{eqb}
 use Rattle.laws.specs.Tests.{every}
-use Rattle.laws.proofs.Tests.{and-true, every-each, every-true}
+use Rattle.laws.proofs.Tests.{and-true, every-each, every-true, not-passed}
 use Rattle.degree.specs.declared.Degree.{Degree}
 use Rattle.degree.specs.Degree.{size}
 use Rattle.line.specs.Cells.{cell, bit, isErased, erasures}
 use Rattle.line.specs.Codeword.{Codeword, isCodeword}
 use Rattle.line.proofs.CellLaws.{erased-or-known}
 use Rattle.line.proofs.Distances.{is-codeword}
-use Rattle.array.specs.Arrays.{column}
+use Rattle.array.specs.Arrays.{line, column}
 use Rattle.array.specs.Plain.{closed}
 use Rattle.array.specs.working.Steps.{IsArray}
 use Rattle.array.specs.working.Runs.{IsFull}
 use Rattle.array.proofs.ArrayLaws.{line-cells, transpose-cells}
-
--- a test that cannot be passed
-not-passed : (b : Bool) → (b ≡ true → ⊥) → b ≡ false
-not-passed true h = absurd (h refl)
-not-passed false h = refl
 
 -- a list with no erasure is a word
 pub no-erasures : (m : List ℕ) → ((i : ℕ) → cell m i < 3) → erasures m ≡ 0 → (i : ℕ) → cell m i < 2
@@ -46,35 +41,62 @@ unsure-counted (c ∷ cs) zero e z = omega (arith, ap (λ (x : ℕ). bit (isEras
 unsure-counted (c ∷ cs) (suc i) e z = unsure-counted cs i e (omega arith)
 
 module _ (d : Degree) (m : List ℕ) where
+  abbrev rowTest : ℕ → Bool
+  rowTest i = isCodeword d (line (size d) m i)
+
   abbrev columnTest : ℕ → Bool
   columnTest j = isCodeword d (column (size d) m j)
 
   -- what a closed array has passed
-  closed-tests : closed d m ≡ true → (erasures m ≡ 0) × ((j : ℕ) → j < size d → isCodeword d (column (size d) m j) ≡ true)
-  unfolding closed
-  closed-tests e =
-      let p = and-true (eqb (erasures m) 0) (every columnTest (size d)) e in
-      (eqb-true (erasures m) 0 (p .0), every-each columnTest (size d) (p .1))
+  record Passed : Type 0 where
+    known : erasures m ≡ 0
+    rows : (i : ℕ) → i < size d → isCodeword d (line (size d) m i) ≡ true
+    columns : (j : ℕ) → j < size d → isCodeword d (column (size d) m j) ≡ true
 
-  -- a column that is no codeword leaves the array open
+  closed-passed : closed d m ≡ true → Passed
+  unfolding closed
+  closed-passed e =
+      let p = and-true (eqb (erasures m) 0) (every rowTest (size d) && every columnTest (size d)) e in
+      let q = and-true (every rowTest (size d)) (every columnTest (size d)) (p .1) in
+      record { known = eqb-true (erasures m) 0 (p .0); rows = every-each rowTest (size d) (q .0); columns = every-each columnTest (size d) (q .1) }
+
+  -- a row that is no codeword leaves the array open
+  pub bad-row : (i : ℕ) → i < size d → isCodeword d (line (size d) m i) ≡ false → closed d m ≡ false
+  bad-row i h e = not-passed (closed d m) (λ c. true≢false (sym (closed-passed c .rows i h) ∙ e))
+
+  -- so does a column
   pub bad-column : (j : ℕ) → j < size d → isCodeword d (column (size d) m j) ≡ false → closed d m ≡ false
-  bad-column j h e = not-passed (closed d m) (λ c. true≢false (sym (closed-tests c .1 j h) ∙ e))
+  bad-column j h e = not-passed (closed d m) (λ c. true≢false (sym (closed-passed c .columns j h) ∙ e))
 
   -- and so does an unsure cell
   pub unsure-cell : (i : ℕ) → cell m i ≡ 2 → closed d m ≡ false
-  unsure-cell i e = not-passed (closed d m) (λ c. unsure-counted m i e (closed-tests c .0))
+  unsure-cell i e = not-passed (closed d m) (λ c. unsure-counted m i e (closed-passed c .known))
 
-  -- closed: no cell unsure and every column a codeword
-  pub closed-exactly : IsArray d m → (closed d m ≡ true) ↔ ((erasures m ≡ 0) × ((j : ℕ) → j < size d → Codeword d (column (size d) m j)))
+  -- no cell is unsure and each row and each column is a codeword
+  pub record IsClosed : Type 0 where
+    pub known : erasures m ≡ 0
+    pub rows : (i : ℕ) → i < size d → Codeword d (line (size d) m i)
+    pub columns : (j : ℕ) → j < size d → Codeword d (column (size d) m j)
+
+  -- such an array is closed
+  pub codewords-closed : IsClosed → closed d m ≡ true
   unfolding closed
-  closed-exactly a = (to, from)
+  codewords-closed p =
+      ap₂ _&&_ (eq-eqb (erasures m) 0 (p .known)) (ap₂ _&&_ (every-true rowTest (size d) (λ i h. tested (p .rows i h))) (every-true columnTest (size d) (λ j h. tested (p .columns j h))))
     where
-      to : closed d m ≡ true → (erasures m ≡ 0) × ((j : ℕ) → j < size d → Codeword d (column (size d) m j))
-      to e =
-          let t = closed-tests e in
-          let full : IsFull d m = record { long = a .long; small = no-erasures m (a .small) (t .0) } in
-          (t .0, λ j h. is-codeword d (line-cells (size d) (size d) j (transpose-cells (size d) (size d) full) h) .0 (t .1 j h))
+      tested : {c : List ℕ} → Codeword d c → isCodeword d c ≡ true
+      tested k = is-codeword d (k .word) .1 k
 
-      from : (erasures m ≡ 0) × ((j : ℕ) → j < size d → Codeword d (column (size d) m j)) → closed d m ≡ true
-      from p =
-          ap₂ _&&_ (eq-eqb (erasures m) 0 (p .0)) (every-true columnTest (size d) (λ j h. is-codeword d (p .1 j h .word) .1 (p .1 j h)))
+  -- and no other is
+  pub closed-exactly : IsArray d m → (closed d m ≡ true) ↔ IsClosed
+  closed-exactly a = (to, codewords-closed)
+    where
+      to : closed d m ≡ true → IsClosed
+      to e =
+          let t = closed-passed e in
+          let full : IsFull d m = record { long = a .long; small = no-erasures m (a .small) (t .known) } in
+          record {
+            known = t .known;
+            rows = λ i h. is-codeword d (line-cells (size d) (size d) i full h) .0 (t .rows i h);
+            columns = λ j h. is-codeword d (line-cells (size d) (size d) j (transpose-cells (size d) (size d) full) h) .0 (t .columns j h);
+          }

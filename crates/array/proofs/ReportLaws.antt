@@ -1,7 +1,8 @@
--- The report: unsure cells counted line by line, and columns that are codewords.
+-- The report: unsure cells counted line by line, and rows and columns that are codewords.
 -- Assumes nothing.
 use mathlib.Core.Path.{_≡_, refl, sym, ap, ap₂, _∙_}
-use mathlib.Core.Bool.{Bool, true, false, _&&_}
+use mathlib.Core.Bool.{Bool, true, false, _&&_, true≢false}
+use mathlib.Core.Logic.{_⊎_, inl, inr}
 use mathlib.Core.List.{List, [], _∷_, _++_}
 use Prim.Native.Nat.{ℕ, _+_, _*_, _<_, _≤_}
 use native.Mathlib.Nat.{suc-mul, zero-mul, add-assoc, zero-add}
@@ -11,7 +12,7 @@ use borrow.Author.Tests.{eq-eqb, ne-eqb}
 use lib.ListN.{take}
 use lib.Seq.{take-add, take-all}
 use Rattle.laws.specs.Tests.{every}
-use Rattle.laws.proofs.Tests.{every-next}
+use Rattle.laws.proofs.Tests.{and-true, every-more, every-fewer, not-passed}
 use Rattle.degree.specs.declared.Degree.{Degree}
 use Rattle.degree.specs.Degree.{size}
 use Rattle.line.specs.Cells.{bit, isErased, erasures}
@@ -22,11 +23,11 @@ use Rattle.line.specs.declared.word.Word.{Word}
 use Rattle.line.specs.working.Word.{value}
 use Rattle.line.proofs.RowLaws.{size-room}
 use Rattle.array.specs.declared.report.Report.{Report}
-use Rattle.array.specs.Arrays.{line, transpose}
+use Rattle.array.specs.Arrays.{line, transpose, column}
 use Rattle.array.specs.working.PackedRows.{Held, LineIn, RowsTurned}
 use Rattle.array.specs.Plain.{plain, plainCount, closed}
 use Rattle.array.specs.working.Steps.{StepDone}
-use Rattle.array.specs.working.Runs.{IsFull, Started, Told, DecodingDone}
+use Rattle.array.specs.working.Runs.{IsFull, Started, Told, DecodingDone, linesTo}
 use Rattle.array.proofs.ArrayLaws.{line-cells, transpose-cells}
 use Rattle.array.proofs.ClosedLaws.{no-erasures}
 
@@ -64,34 +65,54 @@ counting-end {n} {n′} {rows} {sum} {i} c e h m k′ =
     let z : i ≡ n = omega (arith, c .low) in
     c .done m k ∙ ap erasures (take-all (i * n) m (rw z (omega (arith, k .array .long))))
 
--- ---- codewords, a line a turn
+-- ---- codewords, a row and a column a turn
 
-abbrev codeAt : Degree → List ℕ → ℕ → Bool
-codeAt d m j = isCodeword d (line (size d) m j)
+abbrev rowTest : Degree → List ℕ → ℕ → Bool
+rowTest d m i = isCodeword d (line (size d) m i)
 
--- all of the first i lines
-pub record Testing (d : Degree) (rows : List ℕ) (all : Bool) (i : ℕ) : Type 0 where
+abbrev columnTest : Degree → List ℕ → ℕ → Bool
+columnTest d m j = isCodeword d (column (size d) m j)
+
+-- the first i rows and columns
+pub record Testing (d : Degree) (rows columns : List ℕ) (all : Bool) (i : ℕ) : Type 0 where
   pub low : i ≤ size d
-  pub done : (m : List ℕ) → IsFull d m → Held (size d) m rows → all ≡ every (codeAt d m) i
+  pub done : (m : List ℕ) → IsFull d m → Held (size d) m rows → Held (size d) (transpose (size d) (size d) m) columns → all ≡ linesTo d m i
 
-pub testing-start : (d : Degree) (rows : List ℕ) → Testing d rows true 0
-testing-start d rows = record { low = omega arith; done = λ m a k. refl }
+pub testing-start : (d : Degree) (rows columns : List ℕ) → Testing d rows columns true 0
+testing-start d rows columns = record { low = omega arith; done = λ m a h k. refl }
 
-pub testing-next : {d : Degree} {rows : List ℕ} {all b : Bool} {i n : ℕ} {w : Word} {l : Line} → Testing d rows all i → n ≡ size d → i < n → LineIn rows i l → w ≡ l .ones
-    → ((ws : List ℕ) → PacksWord (size d) ws (value w) → b ≡ isCodeword d ws) → Testing d rows (b && all) (i + 1)
-testing-next {d} {rows} {all} {b} {i} {n} {w} c e h f o t = record {
+-- what the test of one packed line says
+abbrev Tested : Degree → Bool → Word → Type 0
+Tested d b w = (ws : List ℕ) → PacksWord (size d) ws (value w) → b ≡ isCodeword d ws
+
+line-tested : (d : Degree) {rows m : List ℕ} {i : ℕ} {l : Line} {w : Word} {b : Bool} → IsFull d m → Held (size d) m rows → i < size d → LineIn rows i l → w ≡ l .ones → Tested d b w
+    → b ≡ isCodeword d (line (size d) m i)
+line-tested d {rows} {m} {i} a h p f o t =
+    t (line (size d) m i) (record { room = size-room d; cells = line-cells (size d) (size d) i a p; ones = ap value o ∙ f (size d) m h p .ones })
+
+pub testing-next : {d : Degree} {rows columns : List ℕ} {across down : Bool} {i n : ℕ} {v w : Word} {k l : Line} → Testing d rows columns true i → n ≡ size d → i < n
+    → LineIn rows i k → v ≡ k .ones → Tested d across v → LineIn columns i l → w ≡ l .ones → Tested d down w → Testing d rows columns (across && down) (i + 1)
+testing-next {d} {rows} {columns} {across} {down} {i} c e h f o s g p t = record {
   low = omega arith;
-  done = λ m a k.
+  done = λ m a u v.
       let inside : i < size d = omega arith in
-      let p : PacksWord (size d) (line (size d) m i) (value w) = record { room = size-room d; cells = line-cells (size d) (size d) i a inside; ones = ap value o ∙ f (size d) m k inside .ones } in
-      every-next (codeAt d m) i (t (line (size d) m i) p) (c .done m a k);
+      let so = and-true (every (rowTest d m) i) (every (columnTest d m) i) (sym (c .done m a u v)) in
+      ap₂ _&&_ (every-more (rowTest d m) i (line-tested d a u inside f o s) (so .0)) (every-more (columnTest d m) i (line-tested d (transpose-cells (size d) (size d) a) v inside g p t) (so .1));
 }
 
-pub testing-end : {d : Degree} {rows : List ℕ} {all : Bool} {i n : ℕ} → Testing d rows all i → n ≡ size d → n ≤ i
-    → (m : List ℕ) → IsFull d m → Held (size d) m rows → all ≡ every (codeAt d m) (size d)
-testing-end {d} {rows} {all} {i} c e h m a k =
+-- at the end all are looked at, or the last that was is none
+pub testing-end : {d : Degree} {rows columns : List ℕ} {all : Bool} {i n : ℕ} → Testing d rows columns all i → n ≡ size d → (all ≡ false) ⊎ (n ≤ i)
+    → (m : List ℕ) → IsFull d m → Held (size d) m rows → Held (size d) (transpose (size d) (size d) m) columns → all ≡ linesTo d m (size d)
+testing-end {d} {rows} {columns} {all} {i} c e (inr h) m a u v =
     let z : i ≡ size d = omega (arith, c .low) in
-    rw z at (c .done m a k)
+    rw z at (c .done m a u v)
+testing-end {d} {rows} {columns} {all} {i} c e (inl f) m a u v =
+    f ∙ sym (not-passed (linesTo d m (size d)) (λ t. true≢false (sym (fewer t) ∙ (sym (c .done m a u v) ∙ f))))
+  where
+    fewer : linesTo d m (size d) ≡ true → linesTo d m i ≡ true
+    fewer t =
+        let so = and-true (every (rowTest d m) (size d)) (every (columnTest d m) (size d)) t in
+        ap₂ _&&_ (every-fewer (rowTest d m) (c .low) (so .0)) (every-fewer (columnTest d m) (c .low) (so .1))
 
 -- ---- the state of an array
 
@@ -101,18 +122,17 @@ pub told-open : (d : Degree) {rows : List ℕ} {t k : ℕ} → ((m : List ℕ) �
 unfolding closed
 told-open d e z m h =
     let q = e m h in
-    record { count = refl; erasures = q; closed = sym (ap (λ (b : Bool). b && every (codeAt d (transpose (size d) (size d) m)) (size d)) (ne-eqb (erasures m) 0 (λ y. z (q ∙ y)))) }
+    record { count = refl; erasures = q; closed = sym (ap (λ (b : Bool). b && linesTo d m (size d)) (ne-eqb (erasures m) 0 (λ y. z (q ∙ y)))) }
 
--- with none it is closed where all columns are codewords
+-- with none it is closed where all rows and columns are codewords
 pub told-full : (d : Degree) {rows columns : List ℕ} {t k : ℕ} {b : Bool} → ((m : List ℕ) → Held (size d) m rows → k ≡ erasures m) → k ≡ 0
-    → RowsTurned rows columns → ((m : List ℕ) → IsFull d m → Held (size d) m columns → b ≡ every (codeAt d m) (size d))
+    → RowsTurned rows columns → ((m : List ℕ) → IsFull d m → Held (size d) m rows → Held (size d) (transpose (size d) (size d) m) columns → b ≡ linesTo d m (size d))
     → (m : List ℕ) → Held (size d) m rows → Told d m t (record { count = t; erasures = k; closed = b })
 unfolding closed
 told-full d {rows} {columns} {t} {k} {b} e z s f m h =
     let q = e m h in
     let full : IsFull d m = record { long = h .array .long; small = no-erasures m (h .array .small) (sym q ∙ z) } in
-    let down : b ≡ every (codeAt d (transpose (size d) (size d) m)) (size d) = f (transpose (size d) (size d) m) (transpose-cells (size d) (size d) full) (s (size d) m h) in
-    record { count = refl; erasures = q; closed = down ∙ sym (ap (λ (b : Bool). b && every (codeAt d (transpose (size d) (size d) m)) (size d)) (eq-eqb (erasures m) 0 (sym q ∙ z))) }
+    record { count = refl; erasures = q; closed = f m full h (s (size d) m h) ∙ sym (ap (λ (b : Bool). b && linesTo d m (size d)) (eq-eqb (erasures m) 0 (sym q ∙ z))) }
 
 -- ---- the whole decoding
 

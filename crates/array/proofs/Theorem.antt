@@ -9,23 +9,21 @@ use Prim.Native.Nat.{ℕ, zero, suc, _+_, _*_, _<_, _≤_}
 use native.Mathlib.Omega.{arith}
 use lib.ListN.{drop, getD}
 use Rattle.laws.proofs.Sums.{sum-bound}
-use Rattle.laws.proofs.Tests.{every-true}
 use Rattle.degree.specs.declared.Degree.{Degree}
 use Rattle.degree.specs.Degree.{size}
 use Rattle.line.specs.working.Packed.{IsLine}
 use Rattle.line.specs.Cells.{IsWord, erasures}
-use Rattle.line.specs.Codeword.{isCodeword}
 use Rattle.line.specs.Bounded.{bounded}
 use Rattle.line.specs.Clauses.{count}
 use Rattle.line.proofs.CellLaws.{word-known}
-use Rattle.line.proofs.Distances.{is-codeword}
 use Rattle.line.proofs.LineLaw.{messages-line, codeword-messages, received-messages}
 use Rattle.line.proofs.CountLaws.{count-le}
-use Rattle.array.specs.Arrays.{line, transpose, column}
+use Rattle.array.specs.Arrays.{line, transpose}
 use Rattle.array.specs.Halves.{rowHalf, columnHalf, rowCount, columnCount}
 use Rattle.array.specs.Plain.{plain, plainCount, closed, RowCondition}
 use Rattle.array.specs.Encoding.{ProductCodeword}
 use Rattle.array.proofs.ArrayLaws.{each-cell, line-at, line-cells, transpose-cells, length-transpose, transpose-transpose, lines-are}
+use Rattle.array.proofs.ClosedLaws.{codewords-closed}
 use Rattle.array.proofs.HalfLines.{row-half-length, row-line-word}
 
 module _ (d : Degree) where
@@ -94,14 +92,12 @@ module _ (d : Degree) where
       small = each-cell (λ x. x < 2) (size d) (size d) s (omega arith) (S .whole) (λ i j p q. rw (← line-at (size d) s i j q) (S .rows i p .word .small j));
     }
 
-    -- it has no unsure cell, and it is closed
+    -- it has no unsure cell, and a codeword in each row and in each column, so that it is closed
     pub sent-known : erasures s ≡ 0
     sent-known = word-known s (sent-bits .small)
 
     pub sent-closed : closed d s ≡ true
-    unfolding closed
-    sent-closed =
-        rw sent-known (every-true (λ j. isCodeword d (column (size d) s j)) (size d) (λ j h. is-codeword d (S .columns j h .word) .1 (S .columns j h)))
+    sent-closed = codewords-closed d s (record { known = sent-known; rows = S .rows; columns = S .columns })
 
     module _ (r : List ℕ) (R : Whole r) where
       -- each half leaves it as it is, whatever the channel and the filling

@@ -27,9 +27,11 @@ module _ (d : Degree) where
       rowCount d m r w + columnCount d (rowHalf d m r w) r (drop (size d) w)
       + plainCount l (columnHalf d (rowHalf d m r w) r (drop (size d) w)) r (drop (size d + size d) w)
 
-  -- closed: no cell unsure and every column a codeword
+  -- closed: no cell is unsure and each row and each column is a codeword
   unfoldable pub closed : List ℕ → Bool
-  closed m = eqb (erasures m) 0 && every (λ j. isCodeword d (column (size d) m j)) (size d)
+  closed m =
+      eqb (erasures m) 0
+      && (every (λ i. isCodeword d (line (size d) m i)) (size d) && every (λ j. isCodeword d (column (size d) m j)) (size d))
 
   -- the row condition: in each received row twice the wrong bits plus the unsure ones, against the array s, is below 6
   abbrev pub RowCondition : List ℕ → List ℕ → Type 0

@@ -11,14 +11,12 @@ use line::tables::LineTables;
 ghost use mathlib.Core.Path.{_≡_};
 ghost use mathlib.Core.List.{List};
 ghost use Prim.Native.Nat.{ℕ};
-ghost use Rattle.laws.specs.Tests.{every};
 ghost use Rattle.degree.specs.Degree.{size};
 ghost use Rattle.line.specs.working.Tables.{TablesOf};
 ghost use Rattle.line.specs.Cells.{erasures as erasuresIn};
-ghost use Rattle.line.specs.Codeword.{isCodeword};
-ghost use Rattle.array.specs.Arrays.{line};
+ghost use Rattle.array.specs.Arrays.{transpose};
 ghost use Rattle.array.specs.working.PackedRows.{Held};
-ghost use Rattle.array.specs.working.Runs.{IsFull, Told};
+ghost use Rattle.array.specs.working.Runs.{IsFull, Told, linesTo};
 
 // The count of decodings, the cells still unsure, and whether the array is closed.
 pub struct Report {
@@ -41,24 +39,26 @@ fn count_erased(d: Degree, rows: &PackedRows) -> u64
     sum
 }
 
-// Is every packed line a codeword?
-fn all_codewords(d: Degree, rows: &PackedRows, tables: &LineTables) -> bool
+// Is every row and every column a codeword? The first that is none ends the search.
+fn all_codewords(d: Degree, rows: &PackedRows, columns: &PackedRows, tables: &LineTables) -> bool
     requires { ⌜ TablesOf d (now tables) ⌝ }
-    ensures { λ r. ⌜ ((m : List ℕ) → IsFull d m → Held (size d) m (now (rows .entry)) → r ≡ every (λ j. isCodeword d (line (size d) m j)) (size d)) ⌝ }
+    ensures { λ r. ⌜ ((m : List ℕ) → IsFull d m → Held (size d) m (now (rows .entry)) → Held (size d) (transpose (size d) (size d) m) (now (columns .entry)) → r ≡ linesTo d m (size d)) ⌝ }
 {
     let n = size_of(d);
     let mut all = true;
     let mut i = 0;
-    while i < n {
-        let l = line_in(rows, i);
-        let one = is_codeword(d, ones_of(l), tables);
-        all = one & all;
+    while i < n && all {
+        let row = line_in(rows, i);
+        let column = line_in(columns, i);
+        let across = is_codeword(d, ones_of(row), tables);
+        let down = is_codeword(d, ones_of(column), tables);
+        all = across & down;
         i += 1;
     }
     all
 }
 
-// Columns are looked at only where no cell is unsure: the words of their ones are then the columns.
+// Lines are looked at only where no cell is unsure: the words of their ones are then the lines.
 pub fn report_of(d: Degree, total: u64, rows: &PackedRows, tables: &LineTables) -> Report
     requires { ⌜ TablesOf d (now tables) ⌝ }
     ensures { λ r. ⌜ ((m : List ℕ) → Held (size d) m (now (rows .entry)) → Told d m total r) ⌝ }
@@ -67,7 +67,7 @@ pub fn report_of(d: Degree, total: u64, rows: &PackedRows, tables: &LineTables) 
     if left == 0 {
         let mut columns = *rows;
         transpose_rows(&mut columns);
-        let all = all_codewords(d, &columns, tables);
+        let all = all_codewords(d, rows, &columns, tables);
         Report {
             count: total,
             erasures: left,

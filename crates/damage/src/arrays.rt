@@ -1,6 +1,7 @@
 // Sent arrays, and damage to them.
 use crate::chance::below;
 use crate::lines::ANY_CELL;
+use crate::lines::FLIPPED;
 use crate::lines::UNSURE;
 use crate::lines::damaged_by;
 use crate::lines::flipped;
@@ -11,6 +12,7 @@ use second::arrays::put_line;
 use second::arrays::take_line;
 use second::codewords::Line;
 use second::encoding::encode_array;
+use second::encoding::encode_line;
 ghost use Prim.Native.Nat.{_≤_, _<_};
 ghost use Rattle.second.specs.working.Loops.{Below};
 
@@ -124,5 +126,78 @@ pub fn damage_array(n: usize, kind: usize, state: &mut u64, cells: &mut Cells)
         reverse(n, kind, cells);
     } else {
         scatter(n, WRONG[kind], ERASED[kind], state, cells);
+    }
+}
+
+// ---- arrays that decoding mostly leaves as they are, and that pass some of the tests of closed only
+
+pub const NEAR_KINDS: usize = 3;
+
+const GOOD_COLUMNS: usize = 0; // the rows are off
+
+const GOOD_ROWS: usize = 1; // the columns are off; else both are good, with unsure cells
+
+// A codeword by chance.
+fn any_codeword(n: usize, state: &mut u64) -> Line
+    requires { ⌜ (13 < n) × (n ≤ 64) ⌝ }
+    ensures { λ r. ⌜ Below 2 r ⌝ }
+{
+    let mut line = [0u8; 64];
+    for i in 0..n {
+        line[i] = below(state, 2) as u8;
+    }
+    encode_line(n, line)
+}
+
+fn crossed_cell(down: u8, across: u8, mark: u8) -> u8
+    ensures { λ r. ⌜ (across < 3 → r < 3) ⌝ }
+{
+    if down == 1 {
+        across
+    } else if mark == 1 {
+        2
+    } else {
+        0
+    }
+}
+
+// The line across where the cell of the line down is 1; else zeros, of which the marked cells are unsure.
+fn crossed_line(n: usize, down: u8, across: Line, marks: Line) -> Line
+    requires { ⌜ n ≤ 64 ⌝ }
+    ensures { λ r. ⌜ (Below 3 across → Below 3 r) ⌝ }
+{
+    let mut line = [0u8; 64];
+    for j in 0..n {
+        line[j] = crossed_cell(down, across[j], marks[j]);
+    }
+    line
+}
+
+// Every row is the line across or zeros, and so every column is the line down or zeros, but for unsure cells.
+fn cross(n: usize, down: Line, across: Line, marks: Line, cells: &mut Cells)
+    requires { ⌜ n ≤ 64 ⌝ }
+    ensures { λ _. ⌜ (Below 3 across → Below 3 (now (cells .entry)) → Below 3 (now (cells .exit))) ⌝ }
+{
+    for i in 0..n {
+        put_line(n, i, crossed_line(n, down[i], across, marks), cells);
+    }
+}
+
+// A line that is off has four wrong cells: mostly no codeword is within 3 of it, so that no message changes a cell. Unsure cells stay where
+// there are 6 or more of them in each line that has any.
+pub fn make_near(n: usize, kind: usize, state: &mut u64, cells: &mut Cells)
+    requires { ⌜ (13 < n) × (n ≤ 64) ⌝ }
+    ensures { λ _. ⌜ (Below 3 (now (cells .entry)) → Below 3 (now (cells .exit))) ⌝ }
+{
+    let one = any_codeword(n, state);
+    let other = any_codeword(n, state);
+    let off = hit_some(FLIPPED, 4, n, state, other);
+    let unmarked = [0u8; 64];
+    if kind == GOOD_COLUMNS {
+        cross(n, one, off, unmarked, cells);
+    } else if kind == GOOD_ROWS {
+        cross(n, off, one, unmarked, cells);
+    } else {
+        cross(n, one, other, off, cells);
     }
 }

@@ -1,10 +1,10 @@
 -- Tests that the checker computes, over all numbers below a bound or all entries of a table, and what a passed test says of each.
 -- Assumes nothing.
-use mathlib.Core.Path.{_≡_, refl, ap₂, subst, sym}
+use mathlib.Core.Path.{_≡_, refl, ap₂, subst, sym, _∙_}
 use mathlib.Core.Bool.{Bool, true, false, _&&_, true≢false}
 use mathlib.Core.Logic.{_⊎_, inl, inr}
 use mathlib.Core.List.{List, [], _∷_}
-use Prim.Native.Nat.{ℕ, zero, suc, _+_, _<_}
+use Prim.Native.Nat.{ℕ, zero, suc, _+_, _<_, _≤_}
 use native.Mathlib.Nat.{eq-or-lt-of-le, le-of-suc-le-suc, le-refl, not-suc-le-zero, suc-inj}
 use native.Mathlib.Numerals.{add-one}
 use native.Mathlib.Omega.{arith}
@@ -38,6 +38,14 @@ every-at f (suc n) t {k} h = pick (eq-or-lt-of-le (le-of-suc-le-suc h)) (every-a
 pub every-next : (f : ℕ → Bool) (n : ℕ) {one all : Bool} → one ≡ f n → all ≡ every f n → (one && all) ≡ every f (n + 1)
 every-next f n e h = rw add-one (ap₂ _&&_ e h)
 
+-- where the test passes so far
+pub every-more : (f : ℕ → Bool) (n : ℕ) {one : Bool} → one ≡ f n → every f n ≡ true → one ≡ every f (n + 1)
+every-more f n {one} e h = passed one ∙ every-next f n e (sym h)
+  where
+    passed : (b : Bool) → b ≡ (b && true)
+    passed true = refl
+    passed false = refl
+
 -- and what each says of the test
 pub every-true : (f : ℕ → Bool) (n : ℕ) → ((k : ℕ) → k < n → f k ≡ true) → every f n ≡ true
 every-true f zero h = refl
@@ -50,6 +58,15 @@ every-each f n e k h = passed (f k) (every-at f n (subst T (sym e) tt) h)
     passed : (b : Bool) → T b → b ≡ true
     passed true t = refl
     passed false t = absurd t
+
+-- fewer numbers
+pub every-fewer : (f : ℕ → Bool) {k n : ℕ} → k ≤ n → every f n ≡ true → every f k ≡ true
+every-fewer f {k} {n} h e = every-true f k (λ i l. every-each f n e i (omega arith))
+
+-- a test that cannot be passed
+pub not-passed : (b : Bool) → (b ≡ true → ⊥) → b ≡ false
+not-passed true h = absurd (h refl)
+not-passed false h = refl
 
 -- the test passes at each list of n bits
 unfoldable pub everyBits : ℕ → (List ℕ → Bool) → Bool

@@ -9,7 +9,10 @@ use crate::tallies::Totals;
 ghost use Prim.Native.Nat.{_+_, _*_, _≤_, _<_};
 ghost use mathlib.Core.Path.{_≡_};
 ghost use Rattle.second.specs.working.Loops.{Below};
-ghost use Rattle.second.specs.working.Arrays.{placeOf, takenLine, withLine};
+ghost use mathlib.Core.Bool.{_&&_};
+ghost use lib.Dec.{eqb};
+ghost use Rattle.second.specs.working.Lines.{oneWhere};
+ghost use Rattle.second.specs.working.Arrays.{placeOf, takenLine, withLine, badLines, unsureIn};
 
 // The cells of an array: the first n times n count, and the others are 0.
 pub type Cells = [u8; 4096];
@@ -94,31 +97,62 @@ pub fn decode(
     sum
 }
 
-// How many columns are no codewords, and how many cells are unsure.
-pub struct Columns {
-    pub bad: u64,
-    pub unsure: u64,
-}
+// ---- what is told of an array
 
 fn one_if(fact: bool) -> u64
-    ensures { λ r. ⌜ r ≤ 1 ⌝ }
+    ensures { λ r. ⌜ (r ≡ oneWhere fact) × (r ≤ 1) ⌝ }
 {
     if fact { 1 } else { 0 }
 }
 
-pub fn columns_of(n: usize, weights: &Weights, cells: &Cells) -> Columns
-    requires { ⌜ n ≤ 64 ⌝ }
-    ensures { λ r. ⌜ (r .bad ≤ n) × (r .unsure ≤ 64 * n) ⌝ }
+// How many of the n lines from `first` on are no codewords, an unsure cell read as 0: the rows from line 0 on, the columns from line n on.
+fn bad_lines(n: usize, weights: &Weights, first: usize, cells: &Cells) -> u64
+    requires { ⌜ (n ≤ 64) × (first ≤ n) ⌝ }
+    ensures { λ r. ⌜ (r ≡ badLines n first (now (weights .entry)) (now (cells .entry))) × (r ≤ n) ⌝ }
 {
     let mut bad: u64 = 0;
-    let mut left: u64 = 0;
-    for j in 0..n {
-        let line = take_line(n, n + j, cells);
-        bad += one_if(syndrome(n, weights, line) != 0);
-        left += unsure(n, line);
+    for i in 0..n {
+        let sum = syndrome(n, weights, take_line(n, first + i, cells));
+        bad += one_if(sum != 0);
     }
-    Columns {
-        bad: bad,
-        unsure: left,
+    bad
+}
+
+fn unsure_in(n: usize, cells: &Cells) -> u64
+    requires { ⌜ n ≤ 64 ⌝ }
+    ensures { λ r. ⌜ (r ≡ unsureIn n (now (cells .entry))) × (r ≤ 64 * n) ⌝ }
+{
+    let mut many: u64 = 0;
+    for i in 0..n {
+        many += unsure(n, take_line(n, i, cells));
     }
+    many
+}
+
+// How many rows and how many columns are no codewords, and how many cells are unsure.
+pub struct Faults {
+    pub rows: u64,
+    pub columns: u64,
+    pub unsure: u64,
+}
+
+pub fn faults_in(n: usize, weights: &Weights, cells: &Cells) -> Faults
+    requires { ⌜ n ≤ 64 ⌝ }
+    ensures { λ r. ⌜ (r .rows ≡ badLines n 0 (now (weights .entry)) (now (cells .entry))) × (r .columns ≡ badLines n n (now (weights .entry)) (now (cells .entry))) × (r .unsure ≡ unsureIn n (now (cells .entry))) ⌝ }
+{
+    let rows = bad_lines(n, weights, 0, cells);
+    let columns = bad_lines(n, weights, n, cells);
+    let unsure = unsure_in(n, cells);
+    Faults {
+        rows: rows,
+        columns: columns,
+        unsure: unsure,
+    }
+}
+
+// "No cell is unsure and each row and each column is a codeword."
+pub fn is_closed(left: Faults) -> bool
+    ensures { λ r. ⌜ r ≡ (eqb (left .unsure) 0 && (eqb (left .rows) 0 && eqb (left .columns) 0)) ⌝ }
+{
+    (left.unsure == 0) & ((left.rows == 0) & (left.columns == 0))
 }

@@ -1,8 +1,9 @@
 // What the program `sheet` reads and prints, read and printed here anew from document 01.
 use crate::arrays::Cells;
 use crate::arrays::area_of;
-use crate::arrays::columns_of;
 use crate::arrays::decode;
+use crate::arrays::faults_in;
+use crate::arrays::is_closed;
 use crate::codewords::Weights;
 ghost use Prim.Native.Nat.{_≤_, _<_};
 
@@ -143,12 +144,8 @@ fn put_decoded(n: usize, weights: &Weights, received: &Cells, output: &mut Text)
         &mut cells,
         &mut tally,
     );
-    let left = columns_of(n, weights, &cells);
-    let closed = if (left.unsure == 0) & (left.bad == 0) {
-        1
-    } else {
-        0
-    };
+    let left = faults_in(n, weights, &cells);
+    let closed = if is_closed(left) { 1 } else { 0 };
     let next = put_numbers(0, count, left.unsure, closed, output);
     put_lines(n, &cells, next, output)
 }

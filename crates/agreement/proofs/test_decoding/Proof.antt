@@ -5,10 +5,10 @@ use Rattle.agreement.proofs.test_decoding.Statement.{statement}
 use Rattle.agreement.proofs.test_decoding.Tie as tie
 
 abbrev Inv-loop : tie.InvT-loop
-Inv-loop n weights many tally₀ state₀ trial₀ tally state trial = trial ≤ many
+Inv-loop near n weights many tally₀ state₀ trial₀ tally state trial = trial ≤ many
 
 abbrev μ-loop : tie.MeasureT-loop
-μ-loop n weights many tally₀ state₀ trial₀ tally state trial = many - trial
+μ-loop near n weights many tally₀ state₀ trial₀ tally state trial = many - trial
 
 pub test-decoding-spec : {M : Type 1} → statement M
 test-decoding-spec =
@@ -17,6 +17,7 @@ test-decoding-spec =
     Inv-loop
     μ-loop
     (λ c. search needs)
+    (λ c κs. search needs)
     (λ c κs. search needs)
     (λ c. search needs)
     (λ c. search needs)

@@ -1,13 +1,16 @@
 -- What the iterations of a decoding start from, and what is told of their end. They serve the entry; its contract names none of
 -- these.
 use mathlib.Core.Path.{_≡_}
+use mathlib.Core.Bool.{Bool, _&&_}
 use mathlib.Core.List.{List}
 use Prim.Native.Nat.{ℕ, _*_}
+use Rattle.laws.specs.Tests.{every}
 use Rattle.degree.specs.declared.Degree.{Degree}
 use Rattle.degree.specs.Degree.{size}
 use Rattle.line.specs.Cells.{IsWord, erasures as erasuresIn}
+use Rattle.line.specs.Codeword.{isCodeword}
 use Rattle.array.specs.declared.report.Report.{Report}
-use Rattle.array.specs.Arrays.{transpose}
+use Rattle.array.specs.Arrays.{line, transpose, column}
 use Rattle.array.specs.working.PackedRows.{Held}
 use Rattle.array.specs.Plain.{plain, plainCount, closed as closedIn}
 
@@ -20,6 +23,10 @@ pub record Started (n : ℕ) (m r rows rowChannel columnChannel : List ℕ) : Ty
   pub held : Held n m rows
   pub across : Held n r rowChannel
   pub down : Held n (transpose n n r) columnChannel
+
+-- rows 0 to k - 1 and columns 0 to k - 1 are codewords
+abbrev pub linesTo : (d : Degree) (m : List ℕ) (k : ℕ) → Bool
+linesTo d m k = every (λ i. isCodeword d (line (size d) m i)) k && every (λ j. isCodeword d (column (size d) m j)) k
 
 -- what is told of an array: its unsure cells, and whether it is closed
 pub record Told (d : Degree) (m : List ℕ) (total : ℕ) (r : Report) : Type 0 where

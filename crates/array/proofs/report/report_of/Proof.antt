@@ -1,4 +1,4 @@
--- `report::report_of` meets its contract: with an unsure cell the array is open, without it is closed where its columns are
+-- `report::report_of` meets its contract: with an unsure cell the array is open, without it is closed where its rows and columns are
 -- codewords.
 -- Assumes nothing.
 use borrow.Author.Needs.{needs}
