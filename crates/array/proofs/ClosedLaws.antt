@@ -19,7 +19,7 @@ use Rattle.line.proofs.Distances.{is-codeword}
 use Rattle.array.specs.Arrays.{line, column}
 use Rattle.array.specs.Plain.{closed}
 use Rattle.array.specs.working.Steps.{IsArray}
-use Rattle.array.specs.working.Runs.{IsFull}
+use Rattle.array.specs.working.Runs.{IsFull, rowTest, columnTest, linesTo}
 use Rattle.array.proofs.ArrayLaws.{line-cells, transpose-cells}
 
 -- a list with no erasure is a word
@@ -41,12 +41,6 @@ unsure-counted (c ∷ cs) zero e z = omega (arith, ap (λ (x : ℕ). bit (isEras
 unsure-counted (c ∷ cs) (suc i) e z = unsure-counted cs i e (omega arith)
 
 module _ (d : Degree) (m : List ℕ) where
-  abbrev rowTest : ℕ → Bool
-  rowTest i = isCodeword d (line (size d) m i)
-
-  abbrev columnTest : ℕ → Bool
-  columnTest j = isCodeword d (column (size d) m j)
-
   -- what a closed array has passed
   record Passed : Type 0 where
     known : erasures m ≡ 0
@@ -56,9 +50,9 @@ module _ (d : Degree) (m : List ℕ) where
   closed-passed : closed d m ≡ true → Passed
   unfolding closed
   closed-passed e =
-      let p = and-true (eqb (erasures m) 0) (every rowTest (size d) && every columnTest (size d)) e in
-      let q = and-true (every rowTest (size d)) (every columnTest (size d)) (p .1) in
-      record { known = eqb-true (erasures m) 0 (p .0); rows = every-each rowTest (size d) (q .0); columns = every-each columnTest (size d) (q .1) }
+      let p = and-true (eqb (erasures m) 0) (linesTo d m (size d)) e in
+      let q = and-true (every (rowTest d m) (size d)) (every (columnTest d m) (size d)) (p .1) in
+      record { known = eqb-true (erasures m) 0 (p .0); rows = every-each (rowTest d m) (size d) (q .0); columns = every-each (columnTest d m) (size d) (q .1) }
 
   -- a row that is no codeword leaves the array open
   pub bad-row : (i : ℕ) → i < size d → isCodeword d (line (size d) m i) ≡ false → closed d m ≡ false
@@ -82,7 +76,7 @@ module _ (d : Degree) (m : List ℕ) where
   pub codewords-closed : IsClosed → closed d m ≡ true
   unfolding closed
   codewords-closed p =
-      ap₂ _&&_ (eq-eqb (erasures m) 0 (p .known)) (ap₂ _&&_ (every-true rowTest (size d) (λ i h. tested (p .rows i h))) (every-true columnTest (size d) (λ j h. tested (p .columns j h))))
+      ap₂ _&&_ (eq-eqb (erasures m) 0 (p .known)) (ap₂ _&&_ (every-true (rowTest d m) (size d) (λ i h. tested (p .rows i h))) (every-true (columnTest d m) (size d) (λ j h. tested (p .columns j h))))
     where
       tested : {c : List ℕ} → Codeword d c → isCodeword d c ≡ true
       tested k = is-codeword d (k .word) .1 k

@@ -23,11 +23,11 @@ use Rattle.line.specs.declared.word.Word.{Word}
 use Rattle.line.specs.working.Word.{value}
 use Rattle.line.proofs.RowLaws.{size-room}
 use Rattle.array.specs.declared.report.Report.{Report}
-use Rattle.array.specs.Arrays.{line, transpose, column}
+use Rattle.array.specs.Arrays.{line, transpose}
 use Rattle.array.specs.working.PackedRows.{Held, LineIn, RowsTurned}
 use Rattle.array.specs.Plain.{plain, plainCount, closed}
 use Rattle.array.specs.working.Steps.{StepDone}
-use Rattle.array.specs.working.Runs.{IsFull, Started, Told, DecodingDone, linesTo}
+use Rattle.array.specs.working.Runs.{IsFull, Started, Told, DecodingDone, rowTest, columnTest, linesTo}
 use Rattle.array.proofs.ArrayLaws.{line-cells, transpose-cells}
 use Rattle.array.proofs.ClosedLaws.{no-erasures}
 
@@ -66,12 +66,6 @@ counting-end {n} {n′} {rows} {sum} {i} c e h m k′ =
     c .done m k ∙ ap erasures (take-all (i * n) m (rw z (omega (arith, k .array .long))))
 
 -- ---- codewords, a row and a column a turn
-
-abbrev rowTest : Degree → List ℕ → ℕ → Bool
-rowTest d m i = isCodeword d (line (size d) m i)
-
-abbrev columnTest : Degree → List ℕ → ℕ → Bool
-columnTest d m j = isCodeword d (column (size d) m j)
 
 -- the first i rows and columns
 pub record Testing (d : Degree) (rows columns : List ℕ) (all : Bool) (i : ℕ) : Type 0 where

@@ -24,9 +24,16 @@ pub record Started (n : ℕ) (m r rows rowChannel columnChannel : List ℕ) : Ty
   pub across : Held n r rowChannel
   pub down : Held n (transpose n n r) columnChannel
 
+-- is row i a codeword, and column j
+abbrev pub rowTest : Degree → List ℕ → ℕ → Bool
+rowTest d m i = isCodeword d (line (size d) m i)
+
+abbrev pub columnTest : Degree → List ℕ → ℕ → Bool
+columnTest d m j = isCodeword d (column (size d) m j)
+
 -- rows 0 to k - 1 and columns 0 to k - 1 are codewords
-abbrev pub linesTo : (d : Degree) (m : List ℕ) (k : ℕ) → Bool
-linesTo d m k = every (λ i. isCodeword d (line (size d) m i)) k && every (λ j. isCodeword d (column (size d) m j)) k
+abbrev pub linesTo : Degree → List ℕ → ℕ → Bool
+linesTo d m k = every (rowTest d m) k && every (columnTest d m) k
 
 -- what is told of an array: its unsure cells, and whether it is closed
 pub record Told (d : Degree) (m : List ℕ) (total : ℕ) (r : Report) : Type 0 where
