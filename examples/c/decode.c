@@ -82,6 +82,7 @@ static void stays(unsigned rows, unsigned columns, uint8_t cell, uint64_t unsure
     check(pugdrel_decode(4, 1, received, n * n, filling, PUGDREL_FILLING_WORDS(1, n), cells, n * n, report, PUGDREL_DECODE_REPORT)
               == PUGDREL_OK, what);
     check(memcmp(cells, received, n * n) == 0, what);
+    /* 2 decodings a line, and none for the 12 lines with 6 unsure cells */
     check(report[PUGDREL_COUNT] == (unsure ? 40 : 64) && report[PUGDREL_UNSURE] == unsure && report[PUGDREL_CLOSED] == closed, what);
 }
 

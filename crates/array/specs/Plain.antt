@@ -27,7 +27,7 @@ module _ (d : Degree) where
       rowCount d m r w + columnCount d (rowHalf d m r w) r (drop (size d) w)
       + plainCount l (columnHalf d (rowHalf d m r w) r (drop (size d) w)) r (drop (size d + size d) w)
 
-  -- closed: no cell is unsure and each row and each column is a codeword
+  -- closed, as document 02 has it (W-203): no cell is unsure and each row and each column is a codeword
   unfoldable pub closed : List ℕ → Bool
   closed m =
       eqb (erasures m) 0
