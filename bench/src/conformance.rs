@@ -203,9 +203,12 @@ fn failed_alone(degree: u64, cells: &[u8]) -> Option<usize> {
         !code.has_codewords(&ones, Half::Columns),
         erasures(cells) > 0,
     ];
-    let mut tests = (0..failed.len()).filter(|&test| failed[test]);
-    let first = tests.next();
-    first.filter(|_| tests.next().is_none())
+    match failed {
+        [true, false, false] => Some(0),
+        [false, true, false] => Some(1),
+        [false, false, true] => Some(2),
+        _ => None,
+    }
 }
 
 /// How far a run has come, on standard error: now and then a line, or on a terminal a line that is overwritten.

@@ -131,7 +131,7 @@ impl Decoder {
             erasures += u64::from(line.erased.count_ones());
             unpack(line.ones, line.erased, row);
         }
-        let closed = erasures == 0 && self.tables.are_closed(&rows.ones[..n]);
+        let closed = erasures == 0 && self.tables.is_closed(&rows.ones[..n]);
         Report {
             count,
             erasures,

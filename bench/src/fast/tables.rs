@@ -91,7 +91,7 @@ impl Tables {
     }
 
     /// Is each of these rows and each column a codeword?
-    pub fn are_closed(&self, rows: &[u64]) -> bool {
+    pub fn is_closed(&self, rows: &[u64]) -> bool {
         rows.iter().all(|&row| self.sums(row) == 0) && self.has_codeword_columns(rows)
     }
 

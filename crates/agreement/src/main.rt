@@ -1,11 +1,11 @@
 // The proved entries compared with the second implementation of document 01, which is the crate `second`, on many lines and arrays
 // made by chance. It prints totals: one disagreement changes them, and so does any change of a result.
 use array::entry::DecodeAnswer;
+use damage::arrays::ALMOST_CLOSED_KINDS;
 use damage::arrays::KINDS;
-use damage::arrays::NEAR_KINDS;
 use damage::arrays::ROWS_WITHIN;
 use damage::arrays::damage_array;
-use damage::arrays::make_near;
+use damage::arrays::make_almost_closed;
 use damage::arrays::make_sent;
 use damage::chance::below;
 use damage::chance::filling_word;
@@ -34,6 +34,7 @@ use second::encoding::extract;
 use second::encoding::message_area;
 use second::lines::differences;
 use second::lines::messages;
+use second::lines::one_if;
 use second::tallies::ALMOST_CLOSED;
 use second::tallies::BOUNDED_DISTANCE;
 use second::tallies::CLAUSES;
@@ -113,10 +114,6 @@ fn same_cells(one: &Cells, other: &Cells) -> bool {
 }
 
 // ---- lines
-
-fn one_if(fact: bool) -> u64 {
-    if fact { 1 } else { 0 }
-}
 
 // Found or not, as 1 or 0; 2 where the call was refused.
 fn found_of(answer: LineAnswer) -> u64 {
@@ -325,7 +322,7 @@ struct Outcome {
     cells: Cells,
 }
 
-// Arrays that fail one of the tests of closed alone: rows are off, or columns, or cells unsure.
+// Almost closed is what fails one of the tests of closed alone: rows are off, or columns, or cells unsure.
 fn note_faults(left: Faults, tally: &mut Totals) {
     let known = left.unsure == 0;
     let across = left.rows == 0;
@@ -447,23 +444,29 @@ fn test_array(n: usize, weights: &Weights, trial: usize, state: &mut u64, tally:
     test_received(n, weights, trial, kind, &sent, received, state, tally);
 }
 
-// One array that passes some of the tests of closed only. It counts as restored where decoding leaves it as it was received.
-fn test_near(n: usize, weights: &Weights, trial: usize, state: &mut u64, tally: &mut Totals)
+// One array that fails one of the tests of closed alone. It counts as restored where decoding leaves it as it was received.
+fn test_almost_closed(
+    n: usize,
+    weights: &Weights,
+    trial: usize,
+    state: &mut u64,
+    tally: &mut Totals,
+)
     requires { ⌜ (13 < n) × (n ≤ 64) ⌝ }
 {
     let mut sent = [0u8; 4096];
-    make_near(n, trial % NEAR_KINDS, state, &mut sent);
+    make_almost_closed(n, trial % ALMOST_CLOSED_KINDS, state, &mut sent);
     let received = sent;
     test_received(n, weights, trial, KINDS, &sent, received, state, tally);
 }
 
-fn test_decoding(near: bool, n: usize, weights: &Weights, many: usize, tally: &mut Totals)
+fn test_decoding(almost_closed: bool, n: usize, weights: &Weights, many: usize, tally: &mut Totals)
     requires { ⌜ (13 < n) × (n ≤ 64) ⌝ }
 {
     let mut state: u64 = 2463534242;
     for trial in 0..many {
-        if near {
-            test_near(n, weights, trial, &mut state, tally);
+        if almost_closed {
+            test_almost_closed(n, weights, trial, &mut state, tally);
         } else {
             test_array(n, weights, trial, &mut state, tally);
         }
@@ -585,14 +588,14 @@ fn run_check_sums(n: usize, weights: &Weights)
     );
 }
 
-fn run_decoding(near: bool, n: usize, weights: &Weights, many: usize, line: &[u8])
+fn run_decoding(almost_closed: bool, n: usize, weights: &Weights, many: usize, line: &[u8])
     requires { ⌜ (13 < n) × (n ≤ 64) ⌝ }
 {
     let mut tally = [0u64; 32];
-    test_decoding(near, n, weights, many, &mut tally);
+    test_decoding(almost_closed, n, weights, many, &mut tally);
     say(line, &tally, 0);
     say(
-        b"almost closed: # with good columns and rows off, # with good rows and columns off, # with good lines and unsure cells\n",
+        b"left almost closed: # with good columns and rows off, # with good rows and columns off, # with good lines and unsure cells\n",
         &tally,
         ALMOST_CLOSED,
     );
@@ -651,7 +654,7 @@ fn run_array_entries(n: usize, weights: &Weights, many: usize)
         n,
         weights,
         many,
-        b"decode, nearly closed: # arrays, # agree, # differ, sum #; # closed, # left as received\n",
+        b"decode, almost closed: # arrays, # agree, # differ, sum #; # closed, # left as received\n",
     );
     run_others(
         ENCODE,

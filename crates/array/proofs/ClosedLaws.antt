@@ -1,7 +1,7 @@
 -- Closed says no less and no more than document 02: no cell is unsure, and each row and each column is a codeword.
 -- Assumes nothing.
 use mathlib.Core.Path.{_≡_, refl, sym, ap, ap₂, _∙_}
-use mathlib.Core.Bool.{Bool, true, false, _&&_, true≢false}
+use mathlib.Core.Bool.{true, false, _&&_, true≢false, not-eq-not}
 use mathlib.Core.Logic.{_↔_, _⊎_, inl, inr, _≢_}
 use mathlib.Core.List.{List, [], _∷_}
 use Prim.Native.Nat.{ℕ, zero, suc, _<_}
@@ -9,7 +9,7 @@ use native.Mathlib.Omega.{arith}
 use borrow.Author.Tests.{eq-eqb, eqb-true}
 use lib.Dec.{eqb}
 use Rattle.laws.specs.Tests.{every}
-use Rattle.laws.proofs.Tests.{and-true, every-each, every-true, not-passed}
+use Rattle.laws.proofs.Tests.{and-true, every-each, every-true}
 use Rattle.degree.specs.declared.Degree.{Degree}
 use Rattle.degree.specs.Degree.{size}
 use Rattle.line.specs.Cells.{cell, bit, isErased, erasures}
@@ -56,15 +56,15 @@ module _ (d : Degree) (m : List ℕ) where
 
   -- a row that is no codeword leaves the array open
   pub bad-row : (i : ℕ) → i < size d → isCodeword d (line (size d) m i) ≡ false → closed d m ≡ false
-  bad-row i h e = not-passed (closed d m) (λ c. true≢false (sym (closed-passed c .rows i h) ∙ e))
+  bad-row i h e = not-eq-not .0 (λ c. true≢false (sym (closed-passed c .rows i h) ∙ e))
 
   -- so does a column
   pub bad-column : (j : ℕ) → j < size d → isCodeword d (column (size d) m j) ≡ false → closed d m ≡ false
-  bad-column j h e = not-passed (closed d m) (λ c. true≢false (sym (closed-passed c .columns j h) ∙ e))
+  bad-column j h e = not-eq-not .0 (λ c. true≢false (sym (closed-passed c .columns j h) ∙ e))
 
   -- and so does an unsure cell
   pub unsure-cell : (i : ℕ) → cell m i ≡ 2 → closed d m ≡ false
-  unsure-cell i e = not-passed (closed d m) (λ c. unsure-counted m i e (closed-passed c .known))
+  unsure-cell i e = not-eq-not .0 (λ c. unsure-counted m i e (closed-passed c .known))
 
   -- no cell is unsure and each row and each column is a codeword
   pub record IsClosed : Type 0 where

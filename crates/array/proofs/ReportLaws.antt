@@ -1,7 +1,7 @@
 -- The report: unsure cells counted line by line, and rows and columns that are codewords.
 -- Assumes nothing.
 use mathlib.Core.Path.{_≡_, refl, sym, ap, ap₂, _∙_}
-use mathlib.Core.Bool.{Bool, true, false, _&&_, true≢false}
+use mathlib.Core.Bool.{Bool, true, false, _&&_, true≢false, not-eq-not}
 use mathlib.Core.Logic.{_⊎_, inl, inr}
 use mathlib.Core.List.{List, [], _∷_, _++_}
 use Prim.Native.Nat.{ℕ, _+_, _*_, _<_, _≤_}
@@ -12,7 +12,7 @@ use borrow.Author.Tests.{eq-eqb, ne-eqb}
 use lib.ListN.{take}
 use lib.Seq.{take-add, take-all}
 use Rattle.laws.specs.Tests.{every}
-use Rattle.laws.proofs.Tests.{and-true, every-more, every-fewer, not-passed}
+use Rattle.laws.proofs.Tests.{and-true, every-more, every-fewer}
 use Rattle.degree.specs.declared.Degree.{Degree}
 use Rattle.degree.specs.Degree.{size}
 use Rattle.line.specs.Cells.{bit, isErased, erasures}
@@ -101,7 +101,7 @@ testing-end {d} {rows} {columns} {all} {i} c e (inr h) m a u v =
     let z : i ≡ size d = omega (arith, c .low) in
     rw z at (c .done m a u v)
 testing-end {d} {rows} {columns} {all} {i} c e (inl f) m a u v =
-    f ∙ sym (not-passed (linesTo d m (size d)) (λ t. true≢false (sym (fewer t) ∙ (sym (c .done m a u v) ∙ f))))
+    f ∙ sym (not-eq-not .0 (λ t. true≢false (sym (fewer t) ∙ (sym (c .done m a u v) ∙ f))))
   where
     fewer : linesTo d m (size d) ≡ true → linesTo d m i ≡ true
     fewer t =

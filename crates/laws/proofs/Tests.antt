@@ -1,7 +1,7 @@
 -- Tests that the checker computes, over all numbers below a bound or all entries of a table, and what a passed test says of each.
 -- Assumes nothing.
 use mathlib.Core.Path.{_≡_, refl, ap₂, subst, sym, _∙_}
-use mathlib.Core.Bool.{Bool, true, false, _&&_, true≢false}
+use mathlib.Core.Bool.{Bool, true, false, _&&_, true≢false, and-true as and-true-is}
 use mathlib.Core.Logic.{_⊎_, inl, inr}
 use mathlib.Core.List.{List, [], _∷_}
 use Prim.Native.Nat.{ℕ, zero, suc, _+_, _<_, _≤_}
@@ -40,11 +40,7 @@ every-next f n e h = rw add-one (ap₂ _&&_ e h)
 
 -- where the test passes so far
 pub every-more : (f : ℕ → Bool) (n : ℕ) {one : Bool} → one ≡ f n → every f n ≡ true → one ≡ every f (n + 1)
-every-more f n {one} e h = passed one ∙ every-next f n e (sym h)
-  where
-    passed : (b : Bool) → b ≡ (b && true)
-    passed true = refl
-    passed false = refl
+every-more f n {one} e h = sym (and-true-is one) ∙ every-next f n e (sym h)
 
 -- and what each says of the test
 pub every-true : (f : ℕ → Bool) (n : ℕ) → ((k : ℕ) → k < n → f k ≡ true) → every f n ≡ true
@@ -62,11 +58,6 @@ every-each f n e k h = passed (f k) (every-at f n (subst T (sym e) tt) h)
 -- fewer numbers
 pub every-fewer : (f : ℕ → Bool) {k n : ℕ} → k ≤ n → every f n ≡ true → every f k ≡ true
 every-fewer f {k} {n} h e = every-true f k (λ i l. every-each f n e i (omega arith))
-
--- a test that cannot be passed
-pub not-passed : (b : Bool) → (b ≡ true → ⊥) → b ≡ false
-not-passed true h = absurd (h refl)
-not-passed false h = refl
 
 -- the test passes at each list of n bits
 unfoldable pub everyBits : ℕ → (List ℕ → Bool) → Bool

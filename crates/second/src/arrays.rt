@@ -4,14 +4,14 @@ use crate::codewords::Line;
 use crate::codewords::Weights;
 use crate::codewords::syndrome;
 use crate::lines::messages;
+use crate::lines::one_if;
 use crate::lines::unsure;
 use crate::tallies::Totals;
 ghost use Prim.Native.Nat.{_+_, _*_, _≤_, _<_};
 ghost use mathlib.Core.Path.{_≡_};
-ghost use Rattle.second.specs.working.Loops.{Below};
 ghost use mathlib.Core.Bool.{_&&_};
 ghost use lib.Dec.{eqb};
-ghost use Rattle.second.specs.working.Lines.{oneWhere};
+ghost use Rattle.second.specs.working.Loops.{Below};
 ghost use Rattle.second.specs.working.Arrays.{placeOf, takenLine, withLine, badLines, unsureIn};
 
 // The cells of an array: the first n times n count, and the others are 0.
@@ -98,12 +98,6 @@ pub fn decode(
 }
 
 // ---- what is told of an array
-
-fn one_if(fact: bool) -> u64
-    ensures { λ r. ⌜ (r ≡ oneWhere fact) × (r ≤ 1) ⌝ }
-{
-    if fact { 1 } else { 0 }
-}
 
 // How many of the n lines from `first` on are no codewords, an unsure cell read as 0: the rows from line 0 on, the columns from line n on.
 fn bad_lines(n: usize, weights: &Weights, first: usize, cells: &Cells) -> u64

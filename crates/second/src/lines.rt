@@ -33,7 +33,7 @@ fn fill(n: usize, line: Line, filling: u64) -> Line
     word
 }
 
-fn one_if(fact: bool) -> u64
+pub fn one_if(fact: bool) -> u64
     ensures { λ r. ⌜ (r ≡ oneWhere fact) × (r ≤ 1) ⌝ }
 {
     if fact { 1 } else { 0 }

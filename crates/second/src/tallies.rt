@@ -1,6 +1,6 @@
 // What a comparison notes, and how it is printed. A kind of test keeps a tally: how many were tried, agree and differ, and the sum of
 // their results; from place 4 on numbers of its own; from place 8 on how often each clause was met; and from place 17 on how often an
-// array was left that fails one of the tests of closed alone. Counts wrap, so that nothing has to be known of them; none comes near 2^64.
+// array was left almost closed: it fails one of the tests of closed alone. Counts wrap, so that nothing has to be known of them; none comes near 2^64.
 use libc::STDOUT_FILENO;
 use std::num::wrapping_add_u64;
 ghost use mathlib.Core.Path.{_≡_};

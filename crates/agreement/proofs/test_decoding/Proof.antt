@@ -5,10 +5,10 @@ use Rattle.agreement.proofs.test_decoding.Statement.{statement}
 use Rattle.agreement.proofs.test_decoding.Tie as tie
 
 abbrev Inv-loop : tie.InvT-loop
-Inv-loop near n weights many tally₀ state₀ trial₀ tally state trial = trial ≤ many
+Inv-loop almost_closed n weights many tally₀ state₀ trial₀ tally state trial = trial ≤ many
 
 abbrev μ-loop : tie.MeasureT-loop
-μ-loop near n weights many tally₀ state₀ trial₀ tally state trial = many - trial
+μ-loop almost_closed n weights many tally₀ state₀ trial₀ tally state trial = many - trial
 
 pub test-decoding-spec : {M : Type 1} → statement M
 test-decoding-spec =

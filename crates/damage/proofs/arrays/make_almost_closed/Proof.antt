@@ -1,8 +1,8 @@
--- `arrays::make_near` meets its contract: codewords are bits, and what is off are cells. Assumes nothing.
+-- `arrays::make_almost_closed` meets its contract: codewords are bits, and what is off are cells. Assumes nothing.
 use borrow.Author.Needs.{needs}
 use Rattle.second.proofs.Ranges.{below-more}
-use Rattle.damage.proofs.arrays.make_near.Statement.{statement}
-use Rattle.damage.proofs.arrays.make_near.Tie as tie
+use Rattle.damage.proofs.arrays.make_almost_closed.Statement.{statement}
+use Rattle.damage.proofs.arrays.make_almost_closed.Tie as tie
 
 returns : tie.Need-returns
 returns c =
@@ -20,8 +20,8 @@ returns-3 c =
     let other = c .before .before .before .before .before .before in
     c .cross3 .ensures (below-more (other .any-codeword2 .result) (other .any-codeword2 .ensures))
 
-pub make-near-spec : {M : Type 1} → statement M
-make-near-spec =
+pub make-almost-closed-spec : {M : Type 1} → statement M
+make-almost-closed-spec =
     tie.close
     (tie.spec
     (λ c κs. search needs)
