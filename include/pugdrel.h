@@ -11,14 +11,16 @@
  *     rt staticlib pugdrel
  *     cc -Iinclude examples/c/decode.c target/staticlib/libpugdrel.a -o target/decode && target/decode
  *
- * Sizes. The degree is 4 or 6. At degree 4 a line has n = 16 cells, k = 7 of them message; at degree 6 n = 64 and k = 51. An
- * array is n * n cells, row after row; a message is k * k cells. The length of every slice is tested, and must be exact.
+ * Sizes. The degree is 4, 6 or 7. At degree 4 a line has n = 16 cells, k = 7 of them message; at degree 6 n = 64 and k = 51; at
+ * degree 7 n = 128 and k = 113. An array is n * n cells, row after row; a message is k * k cells. The length of every slice is
+ * tested, and must be exact.
  *
  * Cells. 0, 1, or 2 for unsure. A message to encode and a word for bounded-distance decoding hold only 0 and 1.
  *
- * Filling words. The decoder tries each line twice, with the unsure cells filled by given bits and by their opposites. Bit i of
- * a filling word is for cell i; bits from n up are not read. Any words are taken: zeros, or drawn at random as in the published
- * algorithm.
+ * Filling words. The decoder tries each line twice, with the unsure cells filled by given bits and by their opposites. A filling
+ * word is two numbers at every degree, the low word first. Bit i of the low one is for cell i, bit i of the high one for cell
+ * 64 + i; bits from n up are not read, so that at degrees 4 and 6 the high one may be anything. Any words are taken: zeros, or
+ * drawn at random as in the published algorithm.
  *
  * Refusals. Each function returns 0, or the number of the first test that applies, in this order. It never aborts. A refused call
  * changes nothing that it was lent, but for the report. A compiler that knows how warns where the number is not looked at;
@@ -31,8 +33,8 @@
  * Memory. The caller owns everything. Nothing is allocated, nothing is kept after the return. Slices must not overlap, and
  * uint64_t slices are aligned as uint64_t. No pointer may be null, not even with length 0; nothing is read or written through
  * it then. The library has no data of its own that is written, so that calls from several threads need no lock as long as what
- * they write is lent to one alone. The stack need, as measured, is 17 KiB for pugdrel_decode, 26 KiB for pugdrel_sheet and 13 KiB
- * for a line. Of the C library memcpy and memset are used. */
+ * they write is lent to one alone. The stack need, as measured and at every degree, is 34 KiB for pugdrel_decode, 70 KiB for
+ * pugdrel_sheet, 18 KiB for a line and 5 KiB for pugdrel_encode. Of the C library memcpy and memset are used. */
 #ifndef PUGDREL_H
 #define PUGDREL_H
 
@@ -52,9 +54,9 @@
 extern "C" {
 #endif
 
-/* The version of this header: 1000000 times the first number, 1000 times the second, and the third. It is 2.0.0. The first grows
+/* The version of this header: 1000000 times the first number, 1000 times the second, and the third. It is 3.0.0. The first grows
  * where a call changes: a program is to compare it with pugdrel_version() where header and library may come apart. */
-#define PUGDREL_VERSION 2000000
+#define PUGDREL_VERSION 3000000
 
 /* The version of the library. */
 PUGDREL_NODISCARD
@@ -65,15 +67,18 @@ uint64_t pugdrel_version(void);
 #define PUGDREL_K4 7
 #define PUGDREL_N6 64
 #define PUGDREL_K6 51
+#define PUGDREL_N7 128
+#define PUGDREL_K7 113
 
-/* Iterations that are taken, and the filling words for them: one for each line of each half, two halves an iteration. */
+/* Iterations that are taken, and the numbers of the filling words for them: a word of two numbers for each line of each half, two
+ * halves an iteration. */
 #define PUGDREL_MAX_ITERATIONS 20
-#define PUGDREL_FILLING_WORDS(iterations, n) (2 * (iterations) * (n))
+#define PUGDREL_FILLING_NUMBERS(iterations, n) (4 * (iterations) * (n))
 
 /* The number that every function returns. */
 enum pugdrel_refusal {
     PUGDREL_OK = 0,
-    PUGDREL_BAD_DEGREE = 1,     /* neither 4 nor 6 */
+    PUGDREL_BAD_DEGREE = 1,     /* not 4, 6 or 7 */
     PUGDREL_BAD_ITERATIONS = 2, /* 0, or above 20 */
     PUGDREL_BAD_LENGTH = 3,     /* a slice that is not of the exact length; a row number of n or more */
     PUGDREL_BAD_CELL = 4        /* a cell above 2, or above 1 in a message or a word */
@@ -84,7 +89,7 @@ static inline const char *pugdrel_refusal_text(uint64_t number)
 {
     switch (number) {
     case PUGDREL_OK: return "taken";
-    case PUGDREL_BAD_DEGREE: return "degree not 4 or 6";
+    case PUGDREL_BAD_DEGREE: return "degree not 4, 6 or 7";
     case PUGDREL_BAD_ITERATIONS: return "iterations 0 or above 20";
     case PUGDREL_BAD_LENGTH: return "a slice not of the exact length, or a row number of n or more";
     case PUGDREL_BAD_CELL: return "a cell above 2, or above 1 in a message or a word";
@@ -104,7 +109,8 @@ enum pugdrel_decode_report {
 
 /* Decodes `received` into `cells`, in `iterations` iterations of all rows and then all columns. Declare the received array const:
  * both are bytes of one length, and a call that has them in each other's place compiles where neither is const.
- * received: n * n cells. filling: PUGDREL_FILLING_WORDS(iterations, n) words, in order of halves and then of lines.
+ * received: n * n cells. filling: PUGDREL_FILLING_NUMBERS(iterations, n) numbers, those of the words in order of halves and then
+ * of lines: those of line i in half h, both counted from 0, are filling[2 * (h * n + i)], low, and the one after it, high.
  * cells: n * n, written only; what they held is not tested. report: 3 numbers.
  * Where in every received row twice the wrong cells plus the unsure ones is below 6, against an array that was sent, the cells
  * are that array's and closed is 1. Closed alone does not tell that: it says that the cells are one of the code's arrays, which
@@ -153,20 +159,20 @@ uint64_t pugdrel_bounded_distance(uint64_t degree, uint8_t *word, size_t word_le
 /* Decoding of a line with unsure cells, in place. report: 1 number, which is 1 where it succeeds; else it is 0 and the line stays
  * as it is. Refusals: 1, 3, 4. */
 PUGDREL_NODISCARD
-uint64_t pugdrel_decode_line(uint64_t degree, uint8_t *cells, size_t cells_len, uint64_t filling, uint64_t *report,
-                             size_t report_len);
+uint64_t pugdrel_decode_line(uint64_t degree, uint8_t *cells, size_t cells_len, uint64_t filling_low, uint64_t filling_high,
+                             uint64_t *report, size_t report_len);
 
 /* The extrinsic messages of a line: what the other cells say about each cell of the incoming line, given the channel's line.
  * incoming, channel: n cells. messages: n cells, written only. report[0] is the count of decodings. Refusals: 1, 3, 4. */
 PUGDREL_NODISCARD
 uint64_t pugdrel_messages(uint64_t degree, const uint8_t *incoming, size_t incoming_len, const uint8_t *channel,
-                          size_t channel_len, uint64_t filling, uint8_t *messages, size_t messages_len, uint64_t *report,
-                          size_t report_len);
+                          size_t channel_len, uint64_t filling_low, uint64_t filling_high, uint8_t *messages,
+                          size_t messages_len, uint64_t *report, size_t report_len);
 
 /* ---- The text form. */
 
 /* The length that `output` must have; no text is longer. */
-#define PUGDREL_SHEET_OUTPUT 4244
+#define PUGDREL_SHEET_OUTPUT 16596
 
 /* What the program `sheet` prints for `input`: a line with the degree, then n lines of n characters 0, 1 or ?. It runs one
  * iteration with filling words of zero. The text is written to the front of `output` (the bytes behind it stay), and report[0] is

@@ -57,7 +57,7 @@ pub struct Call {
     pub input: Vec<u8>,
     /// The channel line.
     pub channel: Vec<u8>,
-    /// The filling words; a line has one.
+    /// The filling words, two numbers each; a line has one.
     pub filling: Vec<u64>,
     /// What is written, or worked on in place.
     pub output: Vec<u8>,
@@ -124,7 +124,7 @@ impl Call {
             ..
         } = self;
         let (degree, iterations, index) = (*degree, *iterations, *index);
-        let word = filling.first().copied().unwrap_or(0);
+        let [low, high] = [0, 1].map(|at| filling.get(at).copied().unwrap_or(0));
         match (self.entry, side) {
             (Entry::Decode, Library) => {
                 library::decode(degree, iterations, input, filling, output, report)
@@ -140,13 +140,13 @@ impl Call {
             (Entry::Row, Plain) => plain::row(degree, input, index, report),
             (Entry::BoundedDistance, Library) => library::bounded_distance(degree, output, report),
             (Entry::BoundedDistance, Plain) => plain::bounded_distance(degree, output, report),
-            (Entry::DecodeLine, Library) => library::decode_line(degree, output, word, report),
-            (Entry::DecodeLine, Plain) => plain::decode_line(degree, output, word, report),
+            (Entry::DecodeLine, Library) => library::decode_line(degree, output, low, high, report),
+            (Entry::DecodeLine, Plain) => plain::decode_line(degree, output, low, high, report),
             (Entry::Messages, Library) => {
-                library::messages(degree, input, channel, word, output, report)
+                library::messages(degree, input, channel, low, high, output, report)
             }
             (Entry::Messages, Plain) => {
-                plain::messages(degree, input, channel, word, output, report)
+                plain::messages(degree, input, channel, low, high, output, report)
             }
             (Entry::Sheet, Library) => library::sheet(input, output, report),
             (Entry::Sheet, Plain) => plain::sheet(input, output, report),
@@ -277,21 +277,23 @@ fn words_from(text: &str) -> Result<Vec<u64>, Failure> {
 #[cfg(test)]
 mod tests {
     use super::*;
-    use crate::calls::random_call;
+    use crate::calls::{Mix, random_call};
     use crate::random::Random;
 
     #[test]
     fn a_call_is_read_back_as_it_was_printed() {
         let mut random = Random::new(1);
-        for _ in 0..300 {
-            let call = random_call(&mut random);
-            assert_eq!(call.to_string().parse::<Call>().unwrap(), call);
+        for mix in Mix::ALL {
+            for _ in 0..300 {
+                let call = random_call(&mix, &mut random);
+                assert_eq!(call.to_string().parse::<Call>().unwrap(), call);
+            }
         }
     }
 
     #[test]
     fn a_broken_text_is_an_error() {
-        let good = random_call(&mut Random::new(2)).to_string();
+        let good = random_call(&Mix::ALL[0], &mut Random::new(2)).to_string();
         for (from, to) in [
             ("entry", "entrance"),
             ("degree ", "degree x"),

@@ -1,39 +1,57 @@
 //! Random calls: good ones, and ones with several faults at once.
 
+use std::iter::repeat_n;
+
 use crate::call::{Call, Entry};
 use crate::damage;
 use crate::plain::entries::SHEET_OUTPUT;
 use crate::plain::{Code, Degree, text};
 use crate::random::Random;
 
-/// Every entry, the ones with more to go wrong more often.
-const ENTRIES: [Entry; 20] = [
-    Entry::Decode,
-    Entry::Decode,
-    Entry::Decode,
-    Entry::Decode,
-    Entry::Decode,
-    Entry::Decode,
-    Entry::Encode,
-    Entry::Extract,
-    Entry::Row,
-    Entry::BoundedDistance,
-    Entry::BoundedDistance,
-    Entry::DecodeLine,
-    Entry::DecodeLine,
-    Entry::DecodeLine,
-    Entry::Messages,
-    Entry::Messages,
-    Entry::Messages,
-    Entry::Messages,
-    Entry::Sheet,
-    Entry::Sheet,
-];
+/// Which calls a run is made of.
+pub struct Mix {
+    pub name: &'static str,
+    pub degrees: &'static [Degree],
+    /// How often each entry is called, in the order of all: the ones with more to go wrong more often.
+    weights: [usize; Entry::ALL.len()],
+    /// One call for so many of the count.
+    pub share: u64,
+}
+
+impl Mix {
+    /// A plain decoding of an array of degree 7 takes its time, so that there are fewer of these; and the long lines have calls
+    /// of their own, so that the others do not depend on them.
+    pub const ALL: [Mix; 2] = [
+        Mix {
+            name: "degree 4 or 6",
+            degrees: &[Degree::Four, Degree::Six],
+            weights: [6, 1, 1, 1, 2, 3, 4, 2],
+            share: 1,
+        },
+        Mix {
+            name: "degree 7",
+            degrees: &[Degree::Seven],
+            weights: [1, 1, 1, 1, 2, 3, 4, 1],
+            share: 4,
+        },
+    ];
+
+    fn entry(&self, random: &mut Random) -> Entry {
+        let weighted = Entry::ALL.into_iter().zip(self.weights);
+        let entries = weighted.flat_map(|(entry, weight)| repeat_n(entry, weight));
+        random.pick(&entries.collect::<Vec<Entry>>())
+    }
+}
+
+/// Bytes that are drawn for the output of `sheet`, and stand there again and again. They were all of it before degree 7:
+/// with more draws, the calls of a seed would no longer be those that they were.
+const DRAWN: usize = 4244;
 
 /// A call of a random entry; one in four has faults.
-pub fn random_call(random: &mut Random) -> Call {
-    let entry = random.pick(&ENTRIES);
-    let mut call = good_call(entry, random);
+pub fn random_call(mix: &Mix, random: &mut Random) -> Call {
+    let entry = mix.entry(random);
+    let degree = random.pick(mix.degrees);
+    let mut call = good_call(entry, degree, random);
     if random.one_in(4) {
         for _ in 0..random.between(1, 3) {
             add_fault(&mut call, random);
@@ -43,15 +61,14 @@ pub fn random_call(random: &mut Random) -> Call {
 }
 
 /// A call that is taken. What is only written holds any bytes.
-fn good_call(entry: Entry, random: &mut Random) -> Call {
-    let degree = random.pick(&Degree::ALL);
+fn good_call(entry: Entry, degree: Degree, random: &mut Random) -> Call {
     let (code, n, k) = (Code::of(degree), degree.n(), degree.k());
     let mut call = Call::new(entry, degree.number());
     match entry {
         Entry::Decode => {
             call.iterations = iterations(degree, random);
             call.input = damage::received(code, random);
-            call.filling = damage::filling(2 * call.iterations as usize * n, random);
+            call.filling = damage::filling(degree, degree.lines(call.iterations), random);
             call.output = random.bytes(n * n);
             call.report = random.words(3);
         }
@@ -74,19 +91,20 @@ fn good_call(entry: Entry, random: &mut Random) -> Call {
         }
         Entry::DecodeLine => {
             call.output = damage::line(code, random);
-            call.filling = damage::filling(1, random);
+            call.filling = damage::filling(degree, 1, random);
             call.report = random.words(1);
         }
         Entry::Messages => {
             (call.input, call.channel) = damage::line_pair(code, random);
-            call.filling = damage::filling(1, random);
+            call.filling = damage::filling(degree, 1, random);
             call.output = random.bytes(n);
             call.report = random.words(1);
         }
         Entry::Sheet => {
             call.degree = 0;
             call.input = sheet_text(degree, random);
-            call.output = random.bytes(SHEET_OUTPUT);
+            let drawn = random.bytes(DRAWN).into_iter().cycle();
+            call.output = drawn.take(SHEET_OUTPUT).collect();
             call.report = random.words(1);
         }
     }
@@ -98,6 +116,7 @@ fn iterations(degree: Degree, random: &mut Random) -> u64 {
     let usual = match degree {
         Degree::Four => 8,
         Degree::Six => 4,
+        Degree::Seven => 2,
     };
     let most = if random.one_in(8) { 20 } else { usual };
     random.between(1, most) as u64
@@ -197,11 +216,11 @@ fn faults_of(entry: Entry) -> &'static [Fault] {
 
 fn add_fault(call: &mut Call, random: &mut Random) {
     match random.pick(faults_of(call.entry)) {
-        Fault::Degree => call.degree = random.pick(&[0, 3, 5, 7, 8, 64, u64::MAX]),
+        Fault::Degree => call.degree = random.pick(&[0, 3, 5, 8, 9, 64, u64::MAX]),
         Fault::Iterations => {
             call.iterations = random.pick(&[0, 21, 22, 1 << 32, 1 << 58, u64::MAX]);
         }
-        Fault::Index => call.index = random.pick(&[16, 17, 63, 64, 65, 1 << 40, usize::MAX]),
+        Fault::Index => call.index = random.pick(row_numbers(call.degree)),
         Fault::InputLength => resize(&mut call.input, random),
         Fault::ChannelLength => resize(&mut call.channel, random),
         Fault::FillingLength => resize(&mut call.filling, random),
@@ -210,6 +229,15 @@ fn add_fault(call: &mut Call, random: &mut Random) {
         Fault::InputCell => spoil(&mut call.input, random),
         Fault::ChannelCell => spoil(&mut call.channel, random),
         Fault::OutputCell => spoil(&mut call.output, random),
+    }
+}
+
+/// Row numbers around n, and far beyond it.
+fn row_numbers(degree: u64) -> &'static [usize] {
+    if degree == Degree::Seven.number() {
+        &[64, 126, 127, 128, 129, 1 << 40, usize::MAX]
+    } else {
+        &[16, 17, 63, 64, 65, 1 << 40, usize::MAX]
     }
 }
 

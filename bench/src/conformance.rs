@@ -6,7 +6,7 @@ use std::time::{Duration, Instant};
 
 use crate::arguments::{Arguments, Failure};
 use crate::call::{Call, Entry, Outcome, Side};
-use crate::calls::random_call;
+use crate::calls::{Mix, random_call};
 use crate::damage;
 use crate::fast::{Decoder, Effort};
 use crate::plain::{Code, Degree, Half, UNSURE, erasures};
@@ -17,30 +17,41 @@ pub fn conformance(mut arguments: Arguments) -> Result<(), Failure> {
     let seed: u64 = arguments.option("seed", 1)?;
     let count: u64 = arguments.option("count", 2000)?;
     arguments.end()?;
-    let mut random = Random::new(seed);
+    for mix in Mix::ALL {
+        let count = count / mix.share;
+        let run = format!("of seed {seed}, {}", mix.name);
+        let tally = agreeing_calls(&mix, count, &mut Random::new(seed))
+            .map_err(|why| format!("{why}, {run}"))?;
+        tally.print();
+        println!("{count} calls {run}: all agree");
+        println!();
+    }
+    Ok(())
+}
+
+/// Makes so many calls on both sides; an error at the first one that differs.
+fn agreeing_calls(mix: &Mix, count: u64, random: &mut Random) -> Result<Tally, Failure> {
     let mut tally = Tally::default();
     let mut progress = Progress::new(count);
     let fast = Degree::ALL.map(Decoder::new);
     for done in 0..count {
         progress.show(done);
         let call = if random.one_in(20) {
-            within_condition(&mut random)?
+            within_condition(random.pick(mix.degrees), random)?
         } else {
-            random_call(&mut random)
+            random_call(mix, random)
         };
         if let Some(outcomes) = call.disagreement() {
             progress.clear();
             println!("{}", disagreement_text(&call, &outcomes));
-            return Err(format!("call {done} of seed {seed}: a disagreement").into());
+            return Err(format!("a disagreement at call {done}").into());
         }
         let outcome = call.run(Side::Library);
         compare_with_fast(&fast, &call, &outcome)?;
         tally.add(&call, &outcome);
     }
     progress.clear();
-    tally.print();
-    println!("{count} calls of seed {seed}: all agree");
-    Ok(())
+    Ok(tally)
 }
 
 /// Makes one call, from its text in a file, on both sides.
@@ -65,8 +76,7 @@ pub fn replay(mut arguments: Arguments) -> Result<(), Failure> {
 
 /// Demand 3's last sentence, by the library alone: an array that it encodes, damaged within the row condition, must come
 /// out as sent, closed, and with its message. The decoding is handed on, to be compared with the plain one as well.
-fn within_condition(random: &mut Random) -> Result<Call, Failure> {
-    let degree = random.pick(&Degree::ALL);
+fn within_condition(degree: Degree, random: &mut Random) -> Result<Call, Failure> {
     let (n, k) = (degree.n(), degree.k());
     let mut encode = Call::new(Entry::Encode, degree.number());
     encode.input = random.bits(k * k);
@@ -76,7 +86,7 @@ fn within_condition(random: &mut Random) -> Result<Call, Failure> {
     let mut decode = Call::new(Entry::Decode, degree.number());
     decode.iterations = random.between(1, 2) as u64;
     decode.input = damage::within_condition(&sent, n, random);
-    decode.filling = damage::filling(2 * decode.iterations as usize * n, random);
+    decode.filling = damage::filling(degree, degree.lines(decode.iterations), random);
     decode.output = random.bytes(n * n);
     decode.report = random.words(3);
     let decoded = decode.run(Side::Library).after;
@@ -95,11 +105,12 @@ fn within_condition(random: &mut Random) -> Result<Call, Failure> {
 }
 
 /// The fast decoder is a third opinion on a decoding that is taken.
-fn compare_with_fast(fast: &[Decoder; 2], call: &Call, outcome: &Outcome) -> Result<(), Failure> {
-    if call.entry != Entry::Decode || outcome.refusal != 0 {
-        return Ok(());
-    }
-    let decoder = &fast[usize::from(call.degree == Degree::Six.number())];
+fn compare_with_fast(fast: &[Decoder], call: &Call, outcome: &Outcome) -> Result<(), Failure> {
+    let degree = match Degree::named(call.degree) {
+        Some(degree) if call.entry == Entry::Decode && outcome.refusal == 0 => degree,
+        _ => return Ok(()),
+    };
+    let decoder = &fast[degree.place()];
     for effort in [Effort::Counted, Effort::Needed] {
         let mut cells = vec![0; call.output.len()];
         let report = decoder.decode(
@@ -163,7 +174,7 @@ impl Tally {
         let refusal = (outcome.refusal as usize).min(4);
         self.calls[entry.unwrap_or_default()][refusal] += 1;
         if call.entry == Entry::Decode && refusal == 0 {
-            let lines = call.filling.len() as u64;
+            let lines = call.filling.len() as u64 / 2;
             self.closed += outcome.after.report[2];
             self.count += outcome.after.report[0];
             self.two_a_line += 2 * lines;

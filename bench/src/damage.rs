@@ -1,6 +1,6 @@
 //! Received arrays, damaged in all kinds of ways, and filling words.
 
-use crate::plain::{Code, TOO_MANY, UNSURE};
+use crate::plain::{Code, Degree, TOO_MANY, UNSURE};
 use crate::random::Random;
 
 /// A sent array with this many wrong and this many unsure cells at random places.
@@ -201,14 +201,30 @@ fn between(code: &Code, codeword: &[u8], random: &mut Random) -> Vec<u8> {
         .collect()
 }
 
-/// Filling words: zeros, ones, a mix of both, or any.
-pub fn filling(count: usize, random: &mut Random) -> Vec<u64> {
+/// The numbers of this many filling words: zeros, ones, a mix of both, or any.
+pub fn filling(degree: Degree, words: usize, random: &mut Random) -> Vec<u64> {
     match random.below(6) {
-        0 => vec![0; count],
-        1 => vec![!0; count],
-        2 => (0..count).map(|_| random.pick(&[0, !0])).collect(),
-        _ => random.words(count),
+        0 => filling_by(degree, words, || 0),
+        1 => filling_by(degree, words, || !0),
+        2 => filling_by(degree, words, || random.pick(&[0, !0])),
+        _ => any_filling(degree, words, random),
     }
+}
+
+/// The numbers of this many filling words, with any bits.
+pub fn any_filling(degree: Degree, words: usize, random: &mut Random) -> Vec<u64> {
+    filling_by(degree, words, || random.word())
+}
+
+/// Two numbers a word, the low one first. Where a line has no cells for the high one, it is the opposite of the low one: a
+/// decoder that read it would be seen.
+fn filling_by(degree: Degree, words: usize, mut draw: impl FnMut() -> u64) -> Vec<u64> {
+    let word = |_| {
+        let low = draw();
+        let high = if degree.n() > 64 { draw() } else { !low };
+        [low, high]
+    };
+    (0..words).flat_map(word).collect()
 }
 
 /// Rows with 4 to 7 unsure cells and up to 3 wrong ones.
@@ -314,4 +330,22 @@ fn transposed(cells: &[u8], n: usize) -> Vec<u8> {
     (0..n * n)
         .map(|place| cells[place % n * n + place / n])
         .collect()
+}
+
+#[cfg(test)]
+mod tests {
+    use super::*;
+
+    /// At degrees 4 and 6 a filling word takes one draw, so that arrays drawn after it are those that they were before it had a
+    /// high number.
+    #[test]
+    fn a_filling_word_takes_as_many_draws_as_its_line_needs() {
+        let drawn = Random::new(1).words(6);
+        for degree in [Degree::Four, Degree::Six] {
+            let filling = any_filling(degree, 6, &mut Random::new(1));
+            let expected: Vec<u64> = drawn.iter().flat_map(|&low| [low, !low]).collect();
+            assert_eq!(filling, expected);
+        }
+        assert_eq!(any_filling(Degree::Seven, 3, &mut Random::new(1)), drawn);
+    }
 }

@@ -11,32 +11,42 @@
 mod bits;
 mod messages;
 mod tables;
+mod word;
 
 use crate::plain::Degree;
 use crate::plain::array::Report;
 use bits::{pack, transpose, unpack};
 use messages::messages;
 use tables::Tables;
-
-/// The most lines of an array.
-const MOST: usize = 64;
+use word::Word;
 
 /// A line of cells: where it holds 1, and where it is unsure. No bit is in both.
-#[derive(Clone, Copy, Debug, Default, PartialEq, Eq)]
-struct Line {
-    ones: u64,
-    erased: u64,
+#[derive(Clone, Copy, Debug, PartialEq, Eq)]
+struct Line<W> {
+    ones: W,
+    erased: W,
 }
 
 /// The lines of an array, in one direction, as two squares of bits.
 #[derive(Clone)]
-struct Square {
-    ones: [u64; MOST],
-    erased: [u64; MOST],
+struct Square<W, const MOST: usize> {
+    ones: [W; MOST],
+    erased: [W; MOST],
 }
 
-impl Square {
-    fn line(&self, index: usize) -> Line {
+impl<W: Word, const MOST: usize> Square<W, MOST> {
+    fn packed(cells: &[u8], n: usize) -> Square<W, MOST> {
+        let mut square = Square {
+            ones: [W::from(0); MOST],
+            erased: [W::from(0); MOST],
+        };
+        for (index, row) in cells.chunks_exact(n).enumerate() {
+            (square.ones[index], square.erased[index]) = pack(row);
+        }
+        square
+    }
+
+    fn line(&self, index: usize) -> Line<W> {
         Line {
             ones: self.ones[index],
             erased: self.erased[index],
@@ -85,13 +95,17 @@ impl Decoder {
         filling: &[u64],
         cells: &mut [u8],
     ) -> Report {
-        match effort {
-            Effort::Counted => self.decode_by::<true>(iterations, received, filling, cells),
-            Effort::Needed => self.decode_by::<false>(iterations, received, filling, cells),
-        }
+        // By words of 64 bits where a line has room in them, else by words of 128.
+        let by = match (self.degree.n() > 64, effort) {
+            (false, Effort::Counted) => Decoder::decode_by::<u64, 64, true>,
+            (false, Effort::Needed) => Decoder::decode_by::<u64, 64, false>,
+            (true, Effort::Counted) => Decoder::decode_by::<u128, 128, true>,
+            (true, Effort::Needed) => Decoder::decode_by::<u128, 128, false>,
+        };
+        by(self, iterations, received, filling, cells)
     }
 
-    fn decode_by<const COUNTED: bool>(
+    fn decode_by<W: Word, const MOST: usize, const COUNTED: bool>(
         &self,
         iterations: u64,
         received: &[u8],
@@ -100,30 +114,36 @@ impl Decoder {
     ) -> Report {
         let n = self.degree.n();
         assert_eq!(received.len(), n * n);
-        assert_eq!(filling.len(), 2 * iterations as usize * n);
-        let rows = packed(received, n);
+        assert_eq!(filling.len(), 2 * self.degree.lines(iterations));
+        let rows = Square::<W, MOST>::packed(received, n);
         let mut columns = rows.clone();
         columns.turn(n, true);
         let mut state = rows.clone();
         let mut count = 0;
-        for (half, words) in filling.chunks_exact(n).enumerate() {
+        for (half, words) in filling.as_chunks().0.chunks_exact(n).enumerate() {
             let channel = if half % 2 == 0 { &rows } else { &columns };
-            let mut erased = 0;
+            let mut erased = W::from(0);
             for (index, &word) in words.iter().enumerate() {
                 let (line, channel) = (state.line(index), channel.line(index));
-                let (line, made) = messages::<COUNTED>(&self.tables, line, channel, word);
+                let word = W::filling(word);
+                let (line, made) = messages::<W, COUNTED>(&self.tables, line, channel, word);
                 state.ones[index] = line.ones;
                 state.erased[index] = line.erased;
-                erased |= line.erased;
+                erased = erased | line.erased;
                 count += made;
             }
-            state.turn(n, erased != 0);
+            state.turn(n, erased != W::from(0));
         }
         self.report(&state, count, cells)
     }
 
     /// Writes the rows that are left, and says what they are.
-    fn report(&self, rows: &Square, count: u64, cells: &mut [u8]) -> Report {
+    fn report<W: Word, const MOST: usize>(
+        &self,
+        rows: &Square<W, MOST>,
+        count: u64,
+        cells: &mut [u8],
+    ) -> Report {
         let n = self.degree.n();
         let mut erasures = 0;
         for (index, row) in cells.chunks_exact_mut(n).enumerate() {
@@ -138,17 +158,6 @@ impl Decoder {
             closed,
         }
     }
-}
-
-fn packed(cells: &[u8], n: usize) -> Square {
-    let mut square = Square {
-        ones: [0; MOST],
-        erased: [0; MOST],
-    };
-    for (index, row) in cells.chunks_exact(n).enumerate() {
-        (square.ones[index], square.erased[index]) = pack(row);
-    }
-    square
 }
 
 #[cfg(test)]

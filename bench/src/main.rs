@@ -17,7 +17,7 @@ bench COMMAND
                                        the library beside the implementations in Rust
   times [--arrays N] [--rounds R] [--seed S]
                                        microseconds of one decoding on this machine
-  simulate [--arrays N] [--failures F] [--seed S] [--from DB] [--to DB] [--step DB] [--probe DB] [--plots DIR]
+  simulate [--degree D] [--arrays N] [--failures F] [--seed S] [--from DB] [--to DB] [--step DB] [--probe DB] [--plots DIR]
                                        a receiver behind Gaussian noise: bit error rates and decodings
   picture RECEIVED SENT OUT            an SVG of the array in the file RECEIVED and of what the library makes of it
 ";

@@ -94,6 +94,7 @@ fn cases(random: &mut Random) -> Vec<Case> {
         let of_degree = [
             good(degree, &zeros, random),
             wrong_lengths(degree.n(), &zeros),
+            other_degrees(degree, &zeros),
             wrong_newlines(degree.n(), &zeros),
             other_characters(degree.n(), &zeros),
         ];
@@ -124,15 +125,17 @@ fn with(text: &[u8], place: usize, byte: u8) -> Vec<u8> {
     text
 }
 
-/// Inputs that are, or end in, a first line; all but two of them are refused as 1.
+/// Inputs that are, or end in, a first line; all but three of them are refused as 1.
 fn first_lines() -> Vec<Case> {
-    let lines: [(&str, &[u8]); 18] = [
+    let lines: [(&str, &[u8]); 21] = [
         ("nothing", b""),
         ("`4` without a newline", b"4"),
         ("`6` without a newline", b"6"),
+        ("`7` without a newline", b"7"),
         ("a newline", b"\n"),
         ("`4` and a newline alone", b"4\n"),
         ("`6` and a newline alone", b"6\n"),
+        ("`7` and a newline alone", b"7\n"),
         ("`04`", b"04\n"),
         ("`4` and CR LF", b"4\r\n"),
         ("`4` and CR", b"4\r"),
@@ -141,7 +144,8 @@ fn first_lines() -> Vec<Case> {
         ("`+4`", b"+4\n"),
         ("`46`", b"46\n"),
         ("`5`", b"5\n"),
-        ("`7`", b"7\n"),
+        ("`8`", b"8\n"),
+        ("`67`", b"67\n"),
         ("`16`", b"16\n"),
         ("NUL", b"\0"),
         ("`4` and NUL", b"4\0\n"),
@@ -163,7 +167,6 @@ fn good(degree: Degree, zeros: &[u8], random: &mut Random) -> Vec<Case> {
 fn wrong_lengths(n: usize, zeros: &[u8]) -> Vec<Case> {
     let length = zeros.len();
     let (first_line, rows) = zeros.split_at(2);
-    let other_degree = if first_line == b"4\n" { b'6' } else { b'4' };
     let many_rows = rows.repeat(1 + MEGABYTE / length);
     vec![
         case("one byte short", &zeros[..length - 1]),
@@ -174,11 +177,18 @@ fn wrong_lengths(n: usize, zeros: &[u8]) -> Vec<Case> {
         case("rows twice", &[zeros, rows].concat()),
         case("a megabyte more", &[zeros, &[b'0'; MEGABYTE]].concat()),
         case("a megabyte of rows", &[first_line, &many_rows].concat()),
-        case(
-            "the other degree's first line",
-            &with(zeros, 0, other_degree),
-        ),
     ]
+}
+
+/// The rows of one degree under the first line of another.
+fn other_degrees(degree: Degree, zeros: &[u8]) -> Vec<Case> {
+    let others = Degree::ALL.into_iter().filter(|&other| other != degree);
+    let cases = others.map(|other| {
+        let name = format!("the first line of degree {}", other.number());
+        let first_line = format!("{}\n", other.number());
+        case(&name, &[first_line.as_bytes(), &zeros[2..]].concat())
+    });
+    cases.collect()
 }
 
 fn wrong_newlines(n: usize, zeros: &[u8]) -> Vec<Case> {

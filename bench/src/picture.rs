@@ -55,7 +55,7 @@ impl Sample {
             return Err("no cell of the array that was sent can be unsure".into());
         }
         let mut decoded = vec![0; received.len()];
-        let filling = vec![0; 2 * degree.n()];
+        let filling = vec![0; 4 * degree.n()];
         let report = pugdrel::decode(degree.number(), 1, received, &filling, &mut decoded)?;
         let both = received.iter().zip(sent);
         let faults = both.map(|(&cell, &sent)| fault(cell, sent)).collect();
@@ -311,29 +311,35 @@ mod tests {
         samples.join(name).display().to_string()
     }
 
-    fn sample() -> Sample {
+    fn sample(name: &str) -> Sample {
         let [received, sent] =
-            ["degree6.txt", "degree6-sent.txt"].map(|name| cells_of(&file(name)));
+            ["", "-sent"].map(|part| cells_of(&file(&format!("{name}{part}.txt"))));
         Sample::of(&received.unwrap(), &sent.unwrap()).unwrap()
     }
 
     #[test]
-    fn the_sample_is_mended_as_a_whole() {
-        let sample = sample();
-        let [received, decoded] = sample.panels().map(|panel| {
-            let marks = panel.legend.iter();
-            marks
-                .map(|&(mark, _)| panel.count(mark))
-                .collect::<Vec<_>>()
-        });
-        assert_eq!(received, [3947, 44, 105]);
-        assert_eq!(decoded, [3947, 44, 105, 0, 0]);
-        assert!(sample.report.closed);
+    fn samples_are_mended_as_a_whole() {
+        for (name, right, wrong, unsure) in [
+            ("degree4", 231, 9, 16),
+            ("degree6", 3947, 44, 105),
+            ("degree7", 16088, 101, 195),
+        ] {
+            let sample = sample(name);
+            let [received, decoded] = sample.panels().map(|panel| {
+                let marks = panel.legend.iter();
+                marks
+                    .map(|&(mark, _)| panel.count(mark))
+                    .collect::<Vec<_>>()
+            });
+            assert_eq!(received, [right, wrong, unsure], "{name}");
+            assert_eq!(decoded, [right, wrong, unsure, 0, 0], "{name}");
+            assert!(sample.report.closed);
+        }
     }
 
     #[test]
     fn the_picture_has_its_counts_in_words_and_all_marks() {
-        let svg = sample().to_svg();
+        let svg = sample("degree6").to_svg();
         assert!(svg.contains("Received: right 3947, wrong 44, unsure 105."));
         assert!(svg.contains(
             "closed: right 3947, mended (was wrong) 44, filled (was unsure) 105, left wrong 0, left unsure 0.</desc>"

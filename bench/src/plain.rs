@@ -23,6 +23,9 @@ pub const TOO_MANY: usize = 6;
 /// How far bounded-distance decoding reaches.
 pub const RADIUS: usize = 2;
 
+/// A filling word: two numbers, the low one first. Bit i of the low one serves cell i, bit i of the high one cell 64 + i.
+pub type Filling = [u64; 2];
+
 /// The number of unsure cells.
 pub fn erasures(cells: &[u8]) -> usize {
     cells.iter().filter(|&&cell| cell == UNSURE).count()

@@ -9,13 +9,14 @@
 
 use std::fmt;
 
+use crate::plain::Filling;
 pub use crate::plain::array::Report;
 use crate::plain::entries::SHEET_OUTPUT;
 
 /// Why a call was turned down; nothing that was lent has changed then.
 #[derive(Clone, Copy, Debug, PartialEq, Eq)]
 pub enum Refusal {
-    /// 1: the degree is not 4 or 6.
+    /// 1: the degree is not 4, 6 or 7.
     Degree,
     /// 2: iterations 0 or above 20.
     Iterations,
@@ -65,7 +66,8 @@ pub fn version() -> u64 {
     entries::version()
 }
 
-/// Decodes a received array of n by n cells (0, 1, or 2 for unsure) into `cells`, with 2 × iterations × n filling words.
+/// Decodes a received array of n by n cells (0, 1, or 2 for unsure) into `cells`, with 2 × iterations × n filling words
+/// of two numbers each, the low one first.
 pub fn decode(
     degree: u64,
     iterations: u64,
@@ -118,9 +120,9 @@ pub fn bounded_distance(degree: u64, word: &mut [u8]) -> Result<Option<u64>, Ref
 }
 
 /// Decodes one line with unsure cells in place; false, and the line as it came, if that fails.
-pub fn decode_line(degree: u64, cells: &mut [u8], filling: u64) -> Result<bool, Refusal> {
+pub fn decode_line(degree: u64, cells: &mut [u8], [low, high]: Filling) -> Result<bool, Refusal> {
     let mut report = [0; 1];
-    Refusal::test(entries::decode_line(degree, cells, filling, &mut report))?;
+    Refusal::test(entries::decode_line(degree, cells, low, high, &mut report))?;
     Ok(report != [0])
 }
 
@@ -129,7 +131,7 @@ pub fn messages(
     degree: u64,
     incoming: &[u8],
     channel: &[u8],
-    filling: u64,
+    [low, high]: Filling,
     messages: &mut [u8],
 ) -> Result<u64, Refusal> {
     let mut report = [0; 1];
@@ -137,7 +139,8 @@ pub fn messages(
         degree,
         incoming,
         channel,
-        filling,
+        low,
+        high,
         messages,
         &mut report,
     ))?;
@@ -248,14 +251,21 @@ pub mod entries {
     }
 
     /// Reports 1 if the line was decoded.
-    pub fn decode_line(degree: u64, cells: &mut [u8], filling: u64, report: &mut [u64]) -> u64 {
+    pub fn decode_line(
+        degree: u64,
+        cells: &mut [u8],
+        filling_low: u64,
+        filling_high: u64,
+        report: &mut [u64],
+    ) -> u64 {
         // SAFETY: as in `decode`.
         unsafe {
             library::pugdrel_decode_line(
                 degree,
                 cells.as_mut_ptr(),
                 cells.len(),
-                filling,
+                filling_low,
+                filling_high,
                 report.as_mut_ptr(),
                 report.len(),
             )
@@ -267,7 +277,8 @@ pub mod entries {
         degree: u64,
         incoming: &[u8],
         channel: &[u8],
-        filling: u64,
+        filling_low: u64,
+        filling_high: u64,
         messages: &mut [u8],
         report: &mut [u64],
     ) -> u64 {
@@ -279,7 +290,8 @@ pub mod entries {
                 incoming.len(),
                 channel.as_ptr(),
                 channel.len(),
-                filling,
+                filling_low,
+                filling_high,
                 messages.as_mut_ptr(),
                 messages.len(),
                 report.as_mut_ptr(),
@@ -288,7 +300,7 @@ pub mod entries {
         }
     }
 
-    /// Reports the bytes written to `output`, whose length is 4244.
+    /// Reports the bytes written to `output`, whose length is 16596.
     pub fn sheet(input: &[u8], output: &mut [u8], report: &mut [u64]) -> u64 {
         // SAFETY: as in `decode`.
         unsafe {
@@ -359,7 +371,8 @@ mod library {
             degree: u64,
             cells: *mut u8,
             cells_len: usize,
-            filling: u64,
+            filling_low: u64,
+            filling_high: u64,
             report: *mut u64,
             report_len: usize,
         ) -> u64;
@@ -370,7 +383,8 @@ mod library {
             incoming_len: usize,
             channel: *const u8,
             channel_len: usize,
-            filling: u64,
+            filling_low: u64,
+            filling_high: u64,
             messages: *mut u8,
             messages_len: usize,
             report: *mut u64,

@@ -1,4 +1,4 @@
-//! The command `times`: how long one decoding of degree 6 by the library takes on this machine, in microseconds.
+//! The command `times`: how long one decoding of degree 6 or 7 by the library takes on this machine, in microseconds.
 //!
 //! What it prints stands as it is in docs/BENCHMARKS.md.
 
@@ -9,13 +9,13 @@ use crate::plain::{Code, Degree};
 use crate::random::Random;
 use crate::timing::stopwatch::{Load, Setting, Stopwatch, median};
 
-const DEGREE: Degree = Degree::Six;
+const DEGREES: [Degree; 2] = [Degree::Six, Degree::Seven];
 
-/// Wrong and unsure bits, and iterations, of the loads that are always told.
+/// Wrong and unsure bits in 64 lines, and iterations, of the loads that are always told.
 const TOLD: [(usize, usize, u64); 4] = [(0, 0, 1), (0, 0, 4), (40, 60, 4), (100, 200, 10)];
 
-/// Numbers of wrong and of unsure bits of the loads that the worst is looked for in, each with each, beside all kinds of
-/// damage of the conformance run.
+/// Numbers of wrong and of unsure bits in 64 lines of the loads that the worst is looked for in, each with each, beside all
+/// kinds of damage of the conformance run.
 const WRONG: [usize; 9] = [0, 40, 80, 120, 160, 200, 300, 500, 1000];
 const UNSURE: [usize; 9] = [0, 60, 120, 180, 240, 300, 400, 500, 600];
 
@@ -31,27 +31,42 @@ pub fn times(mut arguments: Arguments) -> Result<(), Failure> {
         return Err("there must be at least one array and one round".into());
     }
     let machine = Machine::watch();
-    let stopwatch = Stopwatch::new(rounds);
-    let mut random = Random::new(seed);
-    let told: Vec<Times> = TOLD
-        .iter()
-        .map(|&(wrong, unsure, iterations)| {
-            let kind = Kind::Bits { wrong, unsure };
-            kind.times(iterations, arrays, &stopwatch, &mut random)
-        })
-        .collect();
-    let worst: Vec<Times> = WORST
-        .iter()
-        .map(|&iterations| worst(iterations, arrays, &stopwatch, &mut random))
-        .collect();
+    let mut bench = Bench {
+        arrays,
+        stopwatch: Stopwatch::new(rounds),
+        random: Random::new(seed),
+    };
+    let tables = DEGREES.map(|degree| Table::of(degree, &mut bench));
     println!(
         "From `bench times --arrays {arrays} --rounds {rounds} --seed {seed}`: {}.",
         machine.text()
     );
     println!();
-    print_table(&told, &worst);
-    print_summary(&told, &worst);
+    tables.iter().for_each(Table::print);
     Ok(())
+}
+
+/// What every load of a run is made and timed with.
+struct Bench {
+    arrays: usize,
+    stopwatch: Stopwatch,
+    random: Random,
+}
+
+impl Bench {
+    fn times(&mut self, degree: Degree, kind: Kind, iterations: u64) -> Times {
+        let load = kind.load(degree, iterations, self.arrays, &mut self.random);
+        Times::of(kind.name(), iterations, &self.stopwatch.runs(&load))
+    }
+
+    /// The load with the slowest array, of all kinds.
+    fn worst(&mut self, degree: Degree, iterations: u64) -> Times {
+        let tried = Kind::all(degree)
+            .into_iter()
+            .map(|kind| self.times(degree, kind, iterations));
+        let slowest = tried.max_by(|a, b| a.slowest_array.total_cmp(&b.slowest_array));
+        slowest.expect("there are kinds")
+    }
 }
 
 /// A kind of received arrays.
@@ -62,11 +77,20 @@ enum Kind {
 }
 
 impl Kind {
-    fn all() -> Vec<Kind> {
+    /// So many wrong and unsure bits in each 64 lines of a degree.
+    fn in_64_lines(degree: Degree, wrong: usize, unsure: usize) -> Kind {
+        let in_all = |bits: usize| bits * degree.n() / 64;
+        Kind::Bits {
+            wrong: in_all(wrong),
+            unsure: in_all(unsure),
+        }
+    }
+
+    fn all(degree: Degree) -> Vec<Kind> {
         let bits = WRONG.iter().flat_map(|&wrong| {
             UNSURE
                 .iter()
-                .map(move |&unsure| Kind::Bits { wrong, unsure })
+                .map(move |&unsure| Kind::in_64_lines(degree, wrong, unsure))
         });
         bits.chain(Damage::ALL.map(Kind::Damaged)).collect()
     }
@@ -82,31 +106,20 @@ impl Kind {
         }
     }
 
-    fn load(self, iterations: u64, arrays: usize, random: &mut Random) -> Load {
+    fn load(self, degree: Degree, iterations: u64, arrays: usize, random: &mut Random) -> Load {
         match self {
             Kind::Bits { wrong, unsure } => Load::new(
-                Setting::new(DEGREE, wrong, unsure, iterations),
+                Setting::new(degree, wrong, unsure, iterations),
                 arrays,
                 random,
             ),
             Kind::Damaged(damage) => {
-                let code = Code::of(DEGREE);
+                let code = Code::of(degree);
                 let received =
                     |random: &mut Random| damage.done_to(damage::sent(code, random), code, random);
-                Load::of(received, DEGREE, iterations, arrays, random)
+                Load::of(received, degree, iterations, arrays, random)
             }
         }
-    }
-
-    fn times(
-        self,
-        iterations: u64,
-        arrays: usize,
-        stopwatch: &Stopwatch,
-        random: &mut Random,
-    ) -> Times {
-        let load = self.load(iterations, arrays, random);
-        Times::of(self.name(), iterations, &stopwatch.runs(&load))
     }
 }
 
@@ -155,48 +168,68 @@ impl Times {
     }
 }
 
-/// The load with the slowest array, of all kinds.
-fn worst(iterations: u64, arrays: usize, stopwatch: &Stopwatch, random: &mut Random) -> Times {
-    let tried = Kind::all()
-        .into_iter()
-        .map(|kind| kind.times(iterations, arrays, stopwatch, random));
-    let slowest = tried.max_by(|a, b| a.slowest_array.total_cmp(&b.slowest_array));
-    slowest.expect("there are kinds")
+/// The times of one degree.
+struct Table {
+    degree: Degree,
+    told: Vec<Times>,
+    worst: Vec<Times>,
 }
 
-fn print_table(told: &[Times], worst: &[Times]) {
-    println!("| load | L | least, µs | median, µs | slowest array, µs | slowest run, µs |");
-    println!("|{}", "---|".repeat(6));
-    told.iter().for_each(|times| times.print(""));
-    let before = format!("worst of {} loads: ", Kind::all().len());
-    worst.iter().for_each(|times| times.print(&before));
-    println!();
-}
+impl Table {
+    fn of(degree: Degree, bench: &mut Bench) -> Table {
+        let told = TOLD.iter().map(|&(wrong, unsure, iterations)| {
+            let kind = Kind::in_64_lines(degree, wrong, unsure);
+            bench.times(degree, kind, iterations)
+        });
+        Table {
+            degree,
+            told: told.collect(),
+            worst: WORST
+                .iter()
+                .map(|&iterations| bench.worst(degree, iterations))
+                .collect(),
+        }
+    }
 
-/// The line for those who read no table.
-fn print_summary(told: &[Times], worst: &[Times]) {
-    let typical: Vec<String> = told
-        .iter()
-        .map(|times| {
-            let (name, iterations) = (&times.name, times.iterations);
-            format!("{} µs ({name}, L = {iterations})", time_text(times.median))
-        })
-        .collect();
-    let slowest = worst
-        .iter()
-        .max_by(|a, b| a.slowest_array.total_cmp(&b.slowest_array));
-    let worst = slowest.map_or(String::new(), |times| {
-        format!(
-            "{} µs ({}, L = {})",
-            time_text(times.slowest_array),
-            times.name,
-            times.iterations
-        )
-    });
-    println!(
-        "One decoding of degree 6 typically takes {}; the slowest array seen over all loads tried takes {worst}.",
-        typical.join(", ")
-    );
+    fn print(&self) {
+        println!("| load | L | least, µs | median, µs | slowest array, µs | slowest run, µs |");
+        println!("|{}", "---|".repeat(6));
+        self.told.iter().for_each(|times| times.print(""));
+        let before = format!("worst of {} loads: ", Kind::all(self.degree).len());
+        self.worst.iter().for_each(|times| times.print(&before));
+        println!();
+        self.print_summary();
+        println!();
+    }
+
+    /// The line for those who read no table.
+    fn print_summary(&self) {
+        let typical: Vec<String> = self
+            .told
+            .iter()
+            .map(|times| {
+                let (name, iterations) = (&times.name, times.iterations);
+                format!("{} µs ({name}, L = {iterations})", time_text(times.median))
+            })
+            .collect();
+        let slowest = self
+            .worst
+            .iter()
+            .max_by(|a, b| a.slowest_array.total_cmp(&b.slowest_array));
+        let worst = slowest.map_or(String::new(), |times| {
+            format!(
+                "{} µs ({}, L = {})",
+                time_text(times.slowest_array),
+                times.name,
+                times.iterations
+            )
+        });
+        println!(
+            "One decoding of degree {} typically takes {}; the slowest array seen over all loads tried takes {worst}.",
+            self.degree.number(),
+            typical.join(", ")
+        );
+    }
 }
 
 /// Microseconds with as many digits as they are worth.
@@ -227,15 +260,21 @@ mod tests {
 
     #[test]
     fn every_kind_is_decoded_and_has_a_name_of_its_own() {
-        let (stopwatch, mut random) = (Stopwatch::new(1), Random::new(1));
-        let mut names: Vec<String> = Vec::new();
-        for kind in Kind::all() {
-            let times = kind.times(1, 2, &stopwatch, &mut random);
-            assert!(times.least > 0.0 && times.least <= times.slowest_array);
-            names.push(times.name);
+        let mut bench = Bench {
+            arrays: 2,
+            stopwatch: Stopwatch::new(1),
+            random: Random::new(1),
+        };
+        for degree in DEGREES {
+            let mut names: Vec<String> = Vec::new();
+            for kind in Kind::all(degree) {
+                let times = bench.times(degree, kind, 1);
+                assert!(times.least > 0.0 && times.least <= times.slowest_array);
+                names.push(times.name);
+            }
+            names.sort();
+            names.dedup();
+            assert_eq!(names.len(), WRONG.len() * UNSURE.len() + Damage::ALL.len());
         }
-        names.sort();
-        names.dedup();
-        assert_eq!(names.len(), WRONG.len() * UNSURE.len() + Damage::ALL.len());
     }
 }

@@ -27,6 +27,17 @@ const SETTINGS: [Setting; 12] = [
     Setting::new(Degree::Four, 0, 100, 10),
 ];
 
+/// Arrays of degree 7, with as many wrong and unsure bits in a line as the first settings have.
+const LONG_SETTINGS: [Setting; 7] = [
+    Setting::new(Degree::Seven, 0, 0, 1),
+    Setting::new(Degree::Seven, 20, 40, 2),
+    Setting::new(Degree::Seven, 80, 120, 4),
+    Setting::new(Degree::Seven, 200, 400, 10),
+    Setting::new(Degree::Seven, 300, 0, 10),
+    Setting::new(Degree::Seven, 0, 800, 10),
+    Setting::new(Degree::Seven, 400, 800, 20),
+];
+
 /// Arrays of each setting.
 const ARRAYS: usize = 32;
 
@@ -64,24 +75,33 @@ fn print_settings(stopwatch: &Stopwatch, random: &mut Random) {
     );
     println!("|{}", "---|".repeat(9));
     for setting in SETTINGS {
-        let load = Load::new(setting, ARRAYS, random);
-        let reports = stopwatch.reports(Maker::Library, &load);
-        let closed = reports.iter().filter(|report| report.closed).count();
-        let count: u64 = reports.iter().map(|report| report.count).sum();
-        let library_by = |maker| stopwatch.ratio((Maker::Library, &load), (maker, &load));
-        println!(
-            "| {} | {} | {} | {} | {closed} of {ARRAYS} | {:.2} | {:.2} | {:.2} | {:.0} |",
-            setting.degree.number(),
-            setting.wrong,
-            setting.unsure,
-            setting.iterations,
-            count as f64 / load.lines() as f64,
-            library_by(Maker::FastCounted),
-            library_by(Maker::FastNeeded),
-            stopwatch.plain_ratio(&load, &load),
-        );
+        print_setting(setting, stopwatch, random);
+    }
+    // From a copy of the draws, so that what comes after does not depend on these.
+    let mut own_draws = random.clone();
+    for setting in LONG_SETTINGS {
+        print_setting(setting, stopwatch, &mut own_draws);
     }
     println!();
+}
+
+fn print_setting(setting: Setting, stopwatch: &Stopwatch, random: &mut Random) {
+    let load = Load::new(setting, ARRAYS, random);
+    let reports = stopwatch.reports(Maker::Library, &load);
+    let closed = reports.iter().filter(|report| report.closed).count();
+    let count: u64 = reports.iter().map(|report| report.count).sum();
+    let library_by = |maker| stopwatch.ratio((Maker::Library, &load), (maker, &load));
+    println!(
+        "| {} | {} | {} | {} | {closed} of {ARRAYS} | {:.2} | {:.2} | {:.2} | {:.0} |",
+        setting.degree.number(),
+        setting.wrong,
+        setting.unsure,
+        setting.iterations,
+        count as f64 / load.lines() as f64,
+        library_by(Maker::FastCounted),
+        library_by(Maker::FastNeeded),
+        stopwatch.plain_ratio(&load, &load),
+    );
 }
 
 /// How the time grows along one of the numbers of a setting.

@@ -7,19 +7,36 @@ const UNSURE: u8 = 2;
 /// "G has ones at 0, 4, 6, 7, 8, 15."
 const G: [usize; 6] = [0, 4, 6, 7, 8, 15];
 
+/// Each degree with n and k.
+const DEGREES: [(u64, usize, usize); 3] = [(4, 16, 7), (6, 64, 51), (7, 128, 113)];
+
 /// A line of degree 4: "unnamed cells are 0".
 fn line(ones: &[usize], unsure: &[usize]) -> Vec<u8> {
-    let mut cells = vec![0; 16];
+    line_of(16, ones, unsure)
+}
+
+fn line_of(n: usize, ones: &[usize], unsure: &[usize]) -> Vec<u8> {
+    let mut cells = vec![0; n];
     ones.iter().for_each(|&cell| cells[cell] = 1);
     unsure.iter().for_each(|&cell| cells[cell] = UNSURE);
     cells
 }
 
-/// The line decoding with these filling bits; nothing if it fails, and then the line must be as it came.
+/// The line decoding of degree 4 with these filling bits.
 fn decoded(cells: &[u8], filling: &[usize]) -> Option<Vec<u8>> {
-    let filling = filling.iter().fold(0, |word, bit| word | 1 << bit);
+    decoded_with(4, cells, bits(filling))
+}
+
+/// The two numbers of a filling word with these bits, low word first.
+fn bits(cells: &[usize]) -> [u64; 2] {
+    let word = cells.iter().fold(0, |word, cell| word | 1u128 << cell);
+    [word as u64, (word >> 64) as u64]
+}
+
+/// The line decoding; nothing if it fails, and then the line must be as it came.
+fn decoded_with(degree: u64, cells: &[u8], filling: [u64; 2]) -> Option<Vec<u8>> {
     let mut after = cells.to_vec();
-    let found = pugdrel::decode_line(4, &mut after, filling).unwrap();
+    let found = pugdrel::decode_line(degree, &mut after, filling).unwrap();
     assert!(found || after == cells);
     found.then_some(after)
 }
@@ -39,13 +56,71 @@ fn lines_p1_to_p9() {
     assert_eq!(decoded(&line(&[0, 4], &[6, 7]), &[6]), None, "P9");
 }
 
+/// As P7 to P9 at every degree: halfway between all zeros and a codeword of six ones, the filling bits of two unsure cells
+/// choose. At degree 7 one of the two is the high number's; at the others no cell is.
+#[test]
+fn filling_bits_choose_between_two_codewords() {
+    for ((degree, n, _), [a, b, c, d, e, f]) in
+        DEGREES
+            .into_iter()
+            .zip([G, [0, 57, 3, 22, 1, 63], [0, 80, 2, 69, 1, 127]])
+    {
+        let zero = line_of(n, &[], &[]);
+        let ones = line_of(n, &[a, b, c, d, e, f], &[]);
+        let half = line_of(n, &[a, b], &[c, d]);
+        let [low, high] = bits(&[c, d]);
+        for (filling, expected) in [
+            ([0, 0], Some(&zero)),
+            ([low, high], Some(&ones)),
+            ([!0, !0], Some(&ones)),
+            ([high, low], Some(&zero)),
+            (bits(&[c]), None),
+            (bits(&[d]), None),
+        ] {
+            let decoded = decoded_with(degree, &half, filling);
+            assert_eq!(decoded.as_ref(), expected, "degree {degree}");
+            // The channel's line is the incoming one, so that its messages are its own decoding.
+            let mut messages = vec![9; n];
+            let count = pugdrel::messages(degree, &half, &half, filling, &mut messages);
+            assert_eq!(count, Ok(2));
+            assert_eq!(&messages, expected.unwrap_or(&half), "degree {degree}");
+        }
+        if n <= 64 {
+            let other = decoded_with(degree, &half, [low, !0]);
+            assert_eq!(other.as_ref(), Some(&ones), "degree {degree}");
+        }
+    }
+}
+
+/// The same for the filling words of an array, all of them alike: half of a codeword of six ones in each of its six rows.
+#[test]
+fn filling_words_of_an_array_have_the_low_number_first() {
+    let six = [0, 80, 2, 69, 1, 127];
+    let array = |line: &[u8]| -> Vec<u8> {
+        let zeros = vec![0; 128];
+        let row = |row: usize| if six.contains(&row) { line } else { &zeros };
+        (0..128).flat_map(row).copied().collect()
+    };
+    let received = array(&line_of(128, &six[..2], &six[2..4]));
+    let [low, high] = bits(&six[2..4]);
+    for (word, expected) in [
+        ([low, high], array(&line_of(128, &six, &[]))),
+        ([high, low], vec![0; 128 * 128]),
+    ] {
+        let mut cells = vec![9; 128 * 128];
+        let report = pugdrel::decode(7, 1, &received, &word.repeat(256), &mut cells).unwrap();
+        assert!(report.closed && report.count == 512);
+        assert_eq!(cells, expected);
+    }
+}
+
 #[test]
 fn messages_p10_to_p14() {
     let messages = |incoming: &[u8], at: usize, cell: u8| {
         let mut channel = incoming.to_vec();
         channel[at] = cell;
         let mut messages = vec![9; 16];
-        let count = pugdrel::messages(4, incoming, &channel, 0, &mut messages).unwrap();
+        let count = pugdrel::messages(4, incoming, &channel, [0, 0], &mut messages).unwrap();
         (messages, count)
     };
     let p10 = line(&[0, 4], &[]);
@@ -69,12 +144,33 @@ fn the_printed_example() {
         pugdrel::sheet(input.as_bytes()).unwrap(),
         printed.as_bytes()
     );
-    assert_eq!(pugdrel::sheet(b"7\n").unwrap(), b"1 0 0 0\n");
+    assert_eq!(pugdrel::sheet(b"7\n").unwrap(), b"3 0 0 0\n");
+    assert_eq!(pugdrel::sheet(b"8\n").unwrap(), b"1 0 0 0\n");
+}
+
+/// The longest texts: all cells unsure, and one bit wrong.
+#[test]
+fn a_text_of_degree_7() {
+    let zeros = "0".repeat(128) + "\n";
+    let unsure = "?".repeat(128) + "\n";
+    let input = format!("7\n{}", unsure.repeat(128));
+    let printed = format!("0 0 16384 0\n{}", unsure.repeat(128));
+    assert_eq!(
+        pugdrel::sheet(input.as_bytes()).unwrap(),
+        printed.as_bytes()
+    );
+    let first = zeros.replacen('0', "1", 1);
+    let input = format!("7\n{first}{}", zeros.repeat(127));
+    let printed = format!("0 512 0 1\n{}", zeros.repeat(128));
+    assert_eq!(
+        pugdrel::sheet(input.as_bytes()).unwrap(),
+        printed.as_bytes()
+    );
 }
 
 #[test]
 fn a_message_goes_there_and_back() {
-    for (degree, n, k) in [(4, 16, 7), (6, 64, 51)] {
+    for (degree, n, k) in DEGREES {
         let message: Vec<u8> = (0..k * k).map(|place| (place % 3 == 1) as u8).collect();
         let mut sent = vec![9; n * n];
         pugdrel::encode(degree, &message, &mut sent).unwrap();
@@ -82,7 +178,7 @@ fn a_message_goes_there_and_back() {
         received[0] ^= 1;
         received[n + 1] = UNSURE;
         let mut cells = vec![9; n * n];
-        let report = pugdrel::decode(degree, 1, &received, &vec![0; 2 * n], &mut cells).unwrap();
+        let report = pugdrel::decode(degree, 1, &received, &vec![0; 4 * n], &mut cells).unwrap();
         assert_eq!((report.erasures, report.closed), (0, true));
         assert_eq!(cells, sent);
         assert_eq!(pugdrel::row(degree, &cells, 1).unwrap(), &sent[n..2 * n]);
@@ -122,7 +218,7 @@ fn closed_asks_for_rows_columns_and_known_cells() {
         (made(&square, 1), (0, true)),
     ] {
         let mut cells = vec![9; 256];
-        let report = pugdrel::decode(4, 2, &received, &[0; 64], &mut cells).unwrap();
+        let report = pugdrel::decode(4, 2, &received, &[0; 128], &mut cells).unwrap();
         assert_eq!(cells, received);
         assert_eq!((report.erasures, report.closed), left);
     }
@@ -131,7 +227,7 @@ fn closed_asks_for_rows_columns_and_known_cells() {
 #[test]
 fn refusals_have_their_numbers_and_change_nothing() {
     let (good, bad) = (vec![0u8; 256], vec![3u8; 256]);
-    let filling = vec![0u64; 32];
+    let filling = vec![0u64; 64];
     let mut cells = vec![9u8; 256];
     let mut refusal = |degree, iterations, received: &[u8]| {
         let refused = pugdrel::decode(degree, iterations, received, &filling, &mut cells);
@@ -141,6 +237,8 @@ fn refusals_have_their_numbers_and_change_nothing() {
     assert_eq!(refusal(5, 0, &bad[..255]), Refusal::Degree);
     assert_eq!(refusal(4, 21, &bad[..255]), Refusal::Iterations);
     assert_eq!(refusal(4, 1, &bad[..255]), Refusal::Length);
+    // Filling words for one iteration of two.
+    assert_eq!(refusal(4, 2, &bad), Refusal::Length);
     assert_eq!(refusal(4, 1, &bad), Refusal::Cell);
     assert_eq!(pugdrel::row(4, &bad, 16), Err(Refusal::Length));
     assert_eq!(pugdrel::row(4, &good, 16).unwrap_err().number(), 3);

@@ -1,5 +1,7 @@
 //! Cells to bits and back, and the transposition of a square of bits.
 
+use super::word::Word;
+
 /// The lowest bit of each of eight bytes.
 const LOW: u64 = 0x0101_0101_0101_0101;
 
@@ -7,22 +9,26 @@ const LOW: u64 = 0x0101_0101_0101_0101;
 const GATHER: u64 = 0x0102_0408_1020_4080;
 
 /// The words of the cells that are 1 and that are 2; cells are 0, 1 or 2, and come in eights.
-pub fn pack(cells: &[u8]) -> (u64, u64) {
-    let (mut ones, mut erased) = (0, 0);
+pub fn pack<W: Word>(cells: &[u8]) -> (W, W) {
+    let (mut ones, mut erased) = (W::from(0), W::from(0));
     for (at, eight) in cells.as_chunks::<8>().0.iter().enumerate() {
         let eight = u64::from_le_bytes(*eight);
-        ones |= ((eight & LOW).wrapping_mul(GATHER) >> 56) << (8 * at);
-        erased |= ((eight >> 1 & LOW).wrapping_mul(GATHER) >> 56) << (8 * at);
+        ones = ones | W::from(gathered(eight)) << (8 * at);
+        erased = erased | W::from(gathered(eight >> 1)) << (8 * at);
     }
     (ones, erased)
 }
 
+/// The lowest bit of each byte.
+fn gathered(eight: u64) -> u64 {
+    (eight & LOW).wrapping_mul(GATHER) >> 56
+}
+
 /// The cells of two such words.
-pub fn unpack(ones: u64, erased: u64, cells: &mut [u8]) {
+pub fn unpack<W: Word>(ones: W, erased: W, cells: &mut [u8]) {
     for (at, eight) in cells.as_chunks_mut::<8>().0.iter_mut().enumerate() {
-        let spread_ones = spread((ones >> (8 * at)) as u8);
-        let spread_erased = spread((erased >> (8 * at)) as u8);
-        *eight = (spread_ones | spread_erased << 1).to_le_bytes();
+        let (ones, erased) = (spread(ones.byte(at)), spread(erased.byte(at)));
+        *eight = (ones | erased << 1).to_le_bytes();
     }
 }
 
@@ -35,31 +41,33 @@ fn spread(byte: u8) -> u64 {
     not_zero >> 7 & LOW
 }
 
-/// Bit j of word i becomes bit i of word j, for i and j below n, which is 16 or 64.
-pub fn transpose(square: &mut [u64; 64], n: usize) {
+/// Bit j of word i becomes bit i of word j, for i and j below n, which is 16, 64 or 128, and no more than a word has bits.
+pub fn transpose<W: Word, const MOST: usize>(square: &mut [W; MOST], n: usize) {
     // Each step with its own numbers, so that all of them are known when it is compiled.
+    if n > 64 {
+        exchange::<W, 64>(square);
+    }
     if n > 16 {
-        exchange::<32>(square);
-        exchange::<16>(square);
+        exchange::<W, 32>(square);
+        exchange::<W, 16>(square);
     }
     let square = &mut square[..n];
-    exchange::<8>(square);
-    exchange::<4>(square);
-    exchange::<2>(square);
-    exchange::<1>(square);
+    exchange::<W, 8>(square);
+    exchange::<W, 4>(square);
+    exchange::<W, 2>(square);
+    exchange::<W, 1>(square);
 }
 
 /// In each block of twice the size along the diagonal, the two quarters off it change places.
 #[inline(always)]
-fn exchange<const SIZE: usize>(square: &mut [u64]) {
-    // In each group of twice the size, the lower half.
-    let mask = u64::MAX / ((1 << SIZE) + 1);
+fn exchange<W: Word, const SIZE: usize>(square: &mut [W]) {
+    let mask = W::lower_halves(SIZE);
     for block in square.chunks_exact_mut(2 * SIZE) {
         let (upper, lower) = block.split_at_mut(SIZE);
         for (upper, lower) in upper.iter_mut().zip(lower) {
             let moved = (*upper >> SIZE ^ *lower) & mask;
-            *upper ^= moved << SIZE;
-            *lower ^= moved;
+            *upper = *upper ^ moved << SIZE;
+            *lower = *lower ^ moved;
         }
     }
 }
@@ -69,20 +77,30 @@ mod tests {
     use super::*;
     use crate::random::Random;
 
-    #[test]
-    fn unpacking_gives_back_what_was_packed() {
+    fn unpacking_gives_back_what_was_packed<W: Word>(n: usize) {
         let mut random = Random::new(1);
         for _ in 0..500 {
-            let cells: Vec<u8> = (0..64).map(|_| random.below(3) as u8).collect();
-            let (ones, erased) = pack(&cells);
+            let cells: Vec<u8> = (0..n).map(|_| random.below(3) as u8).collect();
+            let (ones, erased) = pack::<W>(&cells);
             for (cell, &value) in cells.iter().enumerate() {
-                assert_eq!(ones >> cell & 1 == 1, value == 1);
-                assert_eq!(erased >> cell & 1 == 1, value == 2);
+                assert_eq!(is_set(ones, cell), value == 1);
+                assert_eq!(is_set(erased, cell), value == 2);
             }
-            let mut back = vec![9; 64];
+            let mut back = vec![9; n];
             unpack(ones, erased, &mut back);
             assert_eq!(back, cells);
         }
+    }
+
+    fn is_set<W: Word>(word: W, cell: usize) -> bool {
+        word >> cell & W::from(1) == W::from(1)
+    }
+
+    #[test]
+    fn unpacking_gives_back_what_was_packed_in_64_and_in_128_bits() {
+        unpacking_gives_back_what_was_packed::<u64>(16);
+        unpacking_gives_back_what_was_packed::<u64>(64);
+        unpacking_gives_back_what_was_packed::<u128>(128);
     }
 
     #[test]
@@ -93,19 +111,23 @@ mod tests {
         }
     }
 
-    #[test]
-    fn transposing_changes_the_places_of_row_and_column() {
+    fn transposing_changes_the_places_of_row_and_column<W: Word, const MOST: usize>(n: usize) {
         let mut random = Random::new(2);
-        for n in [16, 64] {
-            let mut square = [0; 64];
-            square[..n].fill_with(|| random.word() >> (64 - n));
-            let before = square;
-            transpose(&mut square, n);
-            for (i, word) in before.iter().enumerate().take(n) {
-                for (j, turned) in square.iter().enumerate().take(n) {
-                    assert_eq!(word >> j & 1, turned >> i & 1);
-                }
+        let mut square = [W::from(0); MOST];
+        square[..n].fill_with(|| W::filling([random.word(), random.word()]));
+        let before = square;
+        transpose(&mut square, n);
+        for (i, &word) in before.iter().enumerate().take(n) {
+            for (j, &turned) in square.iter().enumerate().take(n) {
+                assert_eq!(is_set(word, j), is_set(turned, i));
             }
         }
+    }
+
+    #[test]
+    fn squares_of_16_64_and_128_are_transposed() {
+        transposing_changes_the_places_of_row_and_column::<u64, 64>(16);
+        transposing_changes_the_places_of_row_and_column::<u64, 64>(64);
+        transposing_changes_the_places_of_row_and_column::<u128, 128>(128);
     }
 }

@@ -2,35 +2,37 @@
 
 use super::Line;
 use super::tables::{Mend, Tables};
+use super::word::Word;
 
 /// From this many unsure cells on, a line decoding fails.
 const TOO_MANY: u32 = 6;
 
 /// One filling of the incoming line: the filled word and what its decoding gave.
-struct Side {
+struct Side<W> {
     /// The incoming line's filled word.
-    word: u64,
+    word: W,
     /// The cells in which the channel's filled word differs from it.
-    changed: u64,
+    changed: W,
     sums: u16,
     mend: Mend,
     /// The codeword, if the decoding did not fail.
-    codeword: u64,
+    codeword: W,
     /// The cells at which this filling is in reach.
-    reach: u64,
+    reach: W,
 }
 
-impl Side {
+impl<W: Word> Side<W> {
     #[inline(always)]
-    fn new(tables: &Tables, word: u64, sums: u16, channel_word: u64) -> Side {
+    fn new(tables: &Tables, word: W, sums: u16, channel_word: W) -> Side<W> {
         let changed = word ^ channel_word;
         let mend = tables.mend(sums);
         let flips = mend.flips();
+        let none = W::from(0);
         // A codeword two cells away is left by a change in a third cell, and by no other change.
         let reach = match (mend.failed(), mend.is_far()) {
-            (true, _) => 0,
+            (true, _) => none,
             (false, true) => !changed | flips,
-            (false, false) => !0,
+            (false, false) => !none,
         };
         Side {
             word,
@@ -44,12 +46,12 @@ impl Side {
 
     /// Decodes the word with one cell changed.
     #[inline(always)]
-    fn decode_changed<const COUNTED: bool>(&self, tables: &Tables, cell: u64) -> Option<u64> {
+    fn decode_changed<const COUNTED: bool>(&self, tables: &Tables, cell: W) -> Option<W> {
         let word = self.word ^ cell;
         let sums = if COUNTED {
             tables.sums(word)
         } else {
-            self.sums ^ tables.sums_of_cell(cell.trailing_zeros())
+            self.sums ^ tables.sums_of_cell(cell.lowest_place())
         };
         let mend = tables.mend(sums);
         (!mend.failed()).then_some(word ^ mend.flips())
@@ -58,12 +60,12 @@ impl Side {
 
 /// The messages of a line and the decodings that they count.
 #[inline(always)]
-pub fn messages<const COUNTED: bool>(
+pub fn messages<W: Word, const COUNTED: bool>(
     tables: &Tables,
-    incoming: Line,
-    channel: Line,
-    filling: u64,
-) -> (Line, u64) {
+    incoming: Line<W>,
+    channel: Line<W>,
+    filling: W,
+) -> (Line<W>, u64) {
     let unsure = incoming.erased.count_ones();
     if unsure >= TOO_MANY {
         return crowded_messages(tables, incoming, channel, filling, unsure);
@@ -88,10 +90,10 @@ pub fn messages<const COUNTED: bool>(
     ];
     let own = own_decoding(&sides, incoming);
     let differs = incoming.ones ^ channel.ones | incoming.erased ^ channel.erased;
-    if differs == 0 {
+    if differs == W::from(0) {
         return (own, 2);
     }
-    let settled = settled_by_clauses::<COUNTED>(tables, &sides, incoming, channel, unsure);
+    let settled = settled_by_clauses::<W, COUNTED>(tables, &sides, incoming, channel, unsure);
     let line = Line {
         ones: own.ones & !differs | settled.line.ones & differs,
         erased: own.erased & !differs | settled.line.erased & differs,
@@ -101,7 +103,7 @@ pub fn messages<const COUNTED: bool>(
 
 /// The line decoding of the incoming line itself.
 #[inline(always)]
-fn own_decoding(sides: &[Side; 2], incoming: Line) -> Line {
+fn own_decoding<W: Word>(sides: &[Side<W>; 2], incoming: Line<W>) -> Line<W> {
     let [one, two] = sides;
     match (one.mend.failed(), two.mend.failed()) {
         (true, true) => incoming,
@@ -112,26 +114,26 @@ fn own_decoding(sides: &[Side; 2], incoming: Line) -> Line {
 }
 
 /// What the clauses say of the cells at which incoming and channel differ; other cells are not to be looked at.
-struct Settled {
-    line: Line,
+struct Settled<W> {
+    line: Line<W>,
     opened: u64,
 }
 
 #[inline(always)]
-fn settled_by_clauses<const COUNTED: bool>(
+fn settled_by_clauses<W: Word, const COUNTED: bool>(
     tables: &Tables,
-    sides: &[Side; 2],
-    incoming: Line,
-    channel: Line,
+    sides: &[Side<W>; 2],
+    incoming: Line<W>,
+    channel: Line<W>,
     unsure: u32,
-) -> Settled {
+) -> Settled<W> {
     let [one, two] = sides;
     let differs = incoming.ones ^ channel.ones | incoming.erased ^ channel.erased;
     // A sixth unsure cell: the replaced line cannot be decoded.
     let crowded = if unsure + 1 == TOO_MANY {
         differs & channel.erased
     } else {
-        0
+        W::from(0)
     };
     let todo = differs & !crowded;
     let both = todo & one.reach & two.reach;
@@ -155,7 +157,7 @@ fn settled_by_clauses<const COUNTED: bool>(
     }
     // None in reach and the channel unsure: one of the fillings changed, and it alone can now be decoded.
     for cell in cells_of(neither & channel.erased) {
-        let side = if one.changed & cell != 0 { one } else { two };
+        let side = if one.changed & cell == cell { one } else { two };
         settled.opened += 1;
         if let Some(codeword) = side.decode_changed::<COUNTED>(tables, cell) {
             settled.set(cell, codeword);
@@ -181,25 +183,25 @@ fn settled_by_clauses<const COUNTED: bool>(
     settled
 }
 
-impl Settled {
+impl<W: Word> Settled<W> {
     /// Gives a cell the codeword's value.
     #[inline(always)]
-    fn set(&mut self, cell: u64, codeword: u64) {
+    fn set(&mut self, cell: W, codeword: W) {
         self.line.ones = self.line.ones & !cell | codeword & cell;
-        self.line.erased &= !cell;
+        self.line.erased = self.line.erased & !cell;
     }
 }
 
 /// 6 or more unsure cells come in: the channel's cells, but with exactly 6 an unsure cell that the channel knows is
 /// decoded afresh.
 #[cold]
-fn crowded_messages(
+fn crowded_messages<W: Word>(
     tables: &Tables,
-    incoming: Line,
-    channel: Line,
-    filling: u64,
+    incoming: Line<W>,
+    channel: Line<W>,
+    filling: W,
     unsure: u32,
-) -> (Line, u64) {
+) -> (Line<W>, u64) {
     let mut line = channel;
     let mut count = 0;
     if unsure == TOO_MANY {
@@ -215,7 +217,7 @@ fn crowded_messages(
 }
 
 /// Line decoding of a line with fewer than 6 unsure cells.
-fn decode_line(tables: &Tables, line: Line, filling: u64) -> Option<u64> {
+fn decode_line<W: Word>(tables: &Tables, line: Line<W>, filling: W) -> Option<W> {
     let [one, two] = [filling, !filling].map(|bits| {
         let word = line.ones | line.erased & bits;
         let mend = tables.mend(tables.sums(word));
@@ -229,11 +231,11 @@ fn decode_line(tables: &Tables, line: Line, filling: u64) -> Option<u64> {
 
 /// The codeword with fewer differences at the known cells; at a tie word one's.
 #[inline(always)]
-fn nearer(line: Line, one: u64, two: u64) -> u64 {
+fn nearer<W: Word>(line: Line<W>, one: W, two: W) -> W {
     if one == two {
         return one;
     }
-    let differences = |codeword: u64| ((codeword ^ line.ones) & !line.erased).count_ones();
+    let differences = |codeword: W| ((codeword ^ line.ones) & !line.erased).count_ones();
     if differences(two) < differences(one) {
         two
     } else {
@@ -243,24 +245,25 @@ fn nearer(line: Line, one: u64, two: u64) -> u64 {
 
 /// The incoming line with one cell of the channel's.
 #[inline(always)]
-fn replaced(incoming: Line, channel: Line, cell: u64) -> Line {
+fn replaced<W: Word>(incoming: Line<W>, channel: Line<W>, cell: W) -> Line<W> {
     Line {
         ones: incoming.ones & !cell | channel.ones & cell,
         erased: incoming.erased & !cell | channel.erased & cell,
     }
 }
 
-fn full(ones: u64) -> Line {
-    Line { ones, erased: 0 }
+fn full<W: Word>(ones: W) -> Line<W> {
+    let erased = W::from(0);
+    Line { ones, erased }
 }
 
 /// The bits of a word, one at a time.
 #[inline(always)]
-fn cells_of(word: u64) -> impl Iterator<Item = u64> {
+fn cells_of<W: Word>(word: W) -> impl Iterator<Item = W> {
     let mut left = word;
     std::iter::from_fn(move || {
-        let cell = left & left.wrapping_neg();
-        left ^= cell;
-        (cell != 0).then_some(cell)
+        let cell = left.lowest();
+        left = left ^ cell;
+        (cell != W::from(0)).then_some(cell)
     })
 }

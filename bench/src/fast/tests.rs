@@ -11,7 +11,7 @@ fn compare(degree: Degree, rounds: usize, most_iterations: usize, seed: u64) {
     for _ in 0..rounds {
         let received = damage::received(code, &mut random);
         let iterations = random.between(1, most_iterations);
-        let filling = damage::filling(2 * iterations * n, &mut random);
+        let filling = damage::filling(degree, degree.lines(iterations as u64), &mut random);
         let (expected, report) = code.decode(iterations as u64, &received, &filling);
         for effort in [Effort::Counted, Effort::Needed] {
             let mut cells = random.bytes(n * n);
@@ -30,4 +30,9 @@ fn degree_4_agrees_with_the_plain_decoding() {
 #[test]
 fn degree_6_agrees_with_the_plain_decoding() {
     compare(Degree::Six, 40, 3, 2);
+}
+
+#[test]
+fn degree_7_agrees_with_the_plain_decoding() {
+    compare(Degree::Seven, 20, 2, 3);
 }

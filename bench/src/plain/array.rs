@@ -68,12 +68,13 @@ impl Code {
             .collect()
     }
 
-    /// The plain decoding: what is left in the cells, and the report on it.
+    /// The plain decoding: what is left in the cells, and the report on it. Each line takes the next two numbers of the
+    /// filling.
     pub fn decode(&self, iterations: u64, received: &[u8], filling: &[u64]) -> (Vec<u8>, Report) {
         let n = self.n();
         let mut cells = received.to_vec();
         let mut count = 0;
-        let mut words = filling.iter();
+        let mut words = filling.as_chunks().0.iter();
         for _ in 0..iterations {
             for half in [Half::Rows, Half::Columns] {
                 let mut after = cells.clone();

@@ -1,7 +1,7 @@
 //! "Outgoing messages": the clauses, which here serve the count alone.
 
 use super::line::{filled_words, replaced};
-use super::{Code, RADIUS, TOO_MANY, UNSURE, erasures};
+use super::{Code, Filling, RADIUS, TOO_MANY, UNSURE, erasures};
 
 /// The clause that settles a cell, in document 01's order.
 #[derive(Clone, Copy, Debug, PartialEq, Eq)]
@@ -28,7 +28,7 @@ pub enum Clause {
 
 impl Code {
     /// The clause of every cell of a line.
-    pub fn clauses(&self, incoming: &[u8], channel: &[u8], filling: u64) -> Vec<Clause> {
+    pub fn clauses(&self, incoming: &[u8], channel: &[u8], filling: Filling) -> Vec<Clause> {
         let unsure = erasures(incoming);
         if unsure >= TOO_MANY {
             let clause = |k: usize| {
@@ -76,7 +76,7 @@ impl Code {
 
     /// "The count of a line is 2 if fewer than 6 unsure cells come in, else 0, plus 1 for each open cell, plus 2 for
     /// each cell decoded afresh."
-    pub fn line_count(&self, incoming: &[u8], channel: &[u8], filling: u64) -> u64 {
+    pub fn line_count(&self, incoming: &[u8], channel: &[u8], filling: Filling) -> u64 {
         let decoded = if erasures(incoming) < TOO_MANY { 2 } else { 0 };
         let settled = self.clauses(incoming, channel, filling).into_iter();
         let further = settled.map(|clause| match clause {

@@ -8,10 +8,16 @@ use std::sync::LazyLock;
 pub enum Degree {
     Four,
     Six,
+    Seven,
 }
 
 impl Degree {
-    pub const ALL: [Degree; 2] = [Degree::Four, Degree::Six];
+    pub const ALL: [Degree; 3] = [Degree::Four, Degree::Six, Degree::Seven];
+
+    /// Where it stands among all.
+    pub fn place(self) -> usize {
+        self as usize
+    }
 
     /// The degree that a caller's number names, if it is one.
     pub fn named(number: u64) -> Option<Degree> {
@@ -24,6 +30,7 @@ impl Degree {
         match self {
             Degree::Four => 4,
             Degree::Six => 6,
+            Degree::Seven => 7,
         }
     }
 
@@ -47,11 +54,17 @@ impl Degree {
         2 * self.v()..self.n() - 1
     }
 
-    /// α^4 + α + 1 or α^6 + α + 1; bit i is the coefficient of α^i.
+    /// Lines that a decoding goes through, those of 2 × L halves. Each has a filling word of two numbers.
+    pub fn lines(self, iterations: u64) -> usize {
+        2 * iterations as usize * self.n()
+    }
+
+    /// α^4 + α + 1, α^6 + α + 1 or α^7 + α^3 + 1; bit i is the coefficient of α^i.
     fn polynomial(self) -> u16 {
         match self {
             Degree::Four => 0b1_0011,
             Degree::Six => 0b100_0011,
+            Degree::Seven => 0b1000_1001,
         }
     }
 
@@ -95,14 +108,11 @@ impl Code {
         code
     }
 
-    /// The code of a degree, made once.
+    /// The code of a degree; all are made once.
     pub fn of(degree: Degree) -> &'static Code {
-        static FOUR: LazyLock<Code> = LazyLock::new(|| Code::new(Degree::Four));
-        static SIX: LazyLock<Code> = LazyLock::new(|| Code::new(Degree::Six));
-        match degree {
-            Degree::Four => &FOUR,
-            Degree::Six => &SIX,
-        }
+        static CODES: LazyLock<[Code; Degree::ALL.len()]> =
+            LazyLock::new(|| Degree::ALL.map(Code::new));
+        &CODES[degree.place()]
     }
 
     pub fn n(&self) -> usize {

@@ -6,8 +6,8 @@
 
 use super::{Code, Degree, UNSURE, text};
 
-/// Bytes that `sheet` has room for: four numbers of 21 bytes at most and 64 lines of 65.
-pub const SHEET_OUTPUT: usize = 4244;
+/// Bytes that `sheet` has room for: four numbers of 21 bytes at most and 128 lines of 129.
+pub const SHEET_OUTPUT: usize = 16596;
 
 /// Iterations: 1 to this.
 pub const MOST_ITERATIONS: u64 = 20;
@@ -29,10 +29,10 @@ pub fn decode(
             return Err(2);
         }
         let n = code.n();
-        let words = 2 * iterations as usize * n;
+        let numbers = 4 * iterations as usize * n;
         test_lengths(&[
             (received.len(), n * n),
-            (filling.len(), words),
+            (filling.len(), numbers),
             (cells.len(), n * n),
             (report.len(), 3),
         ])?;
@@ -110,13 +110,20 @@ pub fn bounded_distance(degree: u64, word: &mut [u8], report: &mut [u64]) -> u64
 }
 
 /// Reports whether the line decoding succeeds, and leaves its codeword in the cells.
-pub fn decode_line(degree: u64, cells: &mut [u8], filling: u64, report: &mut [u64]) -> u64 {
+pub fn decode_line(
+    degree: u64,
+    cells: &mut [u8],
+    filling_low: u64,
+    filling_high: u64,
+    report: &mut [u64],
+) -> u64 {
     let tests = || {
         let code = code_of(degree)?;
         test_lengths(&[(cells.len(), code.n()), (report.len(), 1)])?;
         test_cells(cells, UNSURE)?;
         Ok(code)
     };
+    let filling = [filling_low, filling_high];
     let answer = tests().map(|code| found(code.decode_line(cells, filling), cells));
     answered(answer, report)
 }
@@ -126,7 +133,8 @@ pub fn messages(
     degree: u64,
     incoming: &[u8],
     channel: &[u8],
-    filling: u64,
+    filling_low: u64,
+    filling_high: u64,
     messages: &mut [u8],
     report: &mut [u64],
 ) -> u64 {
@@ -143,6 +151,7 @@ pub fn messages(
         test_cells(channel, UNSURE)?;
         Ok(code)
     };
+    let filling = [filling_low, filling_high];
     let answer = tests().map(|code| {
         messages.copy_from_slice(&code.messages(incoming, channel, filling));
         [code.line_count(incoming, channel, filling)]

@@ -1,5 +1,8 @@
 //! The examples of document 01, and properties that its sentences name.
 
+use std::fs;
+use std::path::Path;
+
 use super::clauses::Clause;
 use super::line::{filled_words, known_differences, replaced};
 use super::*;
@@ -11,7 +14,11 @@ const G: [usize; 6] = [0, 4, 6, 7, 8, 15];
 
 /// A line of degree 4: "unnamed cells are 0".
 fn line(ones: &[usize], unsure: &[usize]) -> Vec<u8> {
-    let mut cells = vec![0; 16];
+    line_of(Degree::Four, ones, unsure)
+}
+
+fn line_of(degree: Degree, ones: &[usize], unsure: &[usize]) -> Vec<u8> {
+    let mut cells = vec![0; degree.n()];
     ones.iter().for_each(|&cell| cells[cell] = 1);
     unsure.iter().for_each(|&cell| cells[cell] = UNSURE);
     cells
@@ -38,7 +45,43 @@ fn lines_p1_to_p9() {
         ("P9", line(&[0, 4], &[6, 7]), bits(&[6]), None),
     ];
     for (name, cells, filling, decoded) in table {
-        assert_eq!(four().decode_line(&cells, filling), decoded, "{name}");
+        // No cell is the high number's.
+        for high in [0, !0, filling, !filling] {
+            let filling = [filling, high];
+            assert_eq!(four().decode_line(&cells, filling), decoded, "{name}");
+        }
+    }
+}
+
+/// As P7 to P9 at every degree: halfway between all zeros and a codeword of six ones, with two of its ones and two unsure
+/// cells, the filling bits of these choose. At degree 7 one of the two is the high number's.
+#[test]
+fn filling_bits_choose_between_two_codewords() {
+    let bits = |cells: [usize; 2]| {
+        let word = cells.iter().fold(0, |word, cell| word | 1u128 << cell);
+        [word as u64, (word >> 64) as u64]
+    };
+    for (degree, [a, b, c, d, e, f]) in [
+        (Degree::Four, G),
+        (Degree::Six, [0, 57, 3, 22, 1, 63]),
+        (Degree::Seven, [0, 80, 2, 69, 1, 127]),
+    ] {
+        let code = Code::of(degree);
+        let zero = line_of(degree, &[], &[]);
+        let ones = line_of(degree, &[a, b, c, d, e, f], &[]);
+        assert!(code.is_codeword(&ones));
+        let half = line_of(degree, &[a, b], &[c, d]);
+        let [low, high] = bits([c, d]);
+        for (filling, decoded) in [
+            ([0, 0], Some(zero.clone())),
+            ([low, high], Some(ones.clone())),
+            ([!0, !0], Some(ones)),
+            ([high, low], Some(zero)),
+            (bits([c, c]), None),
+            (bits([d, d]), None),
+        ] {
+            assert_eq!(code.decode_line(&half, filling), decoded, "{degree:?}");
+        }
     }
 }
 
@@ -75,8 +118,10 @@ fn messages_p10_to_p14() {
         ),
     ];
     for (name, incoming, channel, messages, count) in table {
-        assert_eq!(four().messages(&incoming, &channel, 0), messages, "{name}");
-        assert_eq!(four().line_count(&incoming, &channel, 0), count, "{name}");
+        let said = four().messages(&incoming, &channel, [0, 0]);
+        assert_eq!(said, messages, "{name}");
+        let counted = four().line_count(&incoming, &channel, [0, 0]);
+        assert_eq!(counted, count, "{name}");
     }
 }
 
@@ -86,6 +131,15 @@ fn the_printed_example() {
     let input = format!("4\n1000100000000000\n{}", zeros.repeat(15));
     let printed = format!("0 64 0 1\n{}", zeros.repeat(16));
     assert_eq!(text::printed(input.as_bytes()), printed.as_bytes());
+}
+
+#[test]
+fn samples_are_printed_as_stored() {
+    let samples = Path::new(env!("CARGO_MANIFEST_DIR")).join("../samples");
+    for name in ["degree4", "degree6", "degree6-rows-off", "degree7"] {
+        let file = |part: &str| fs::read(samples.join(format!("{name}{part}.txt"))).unwrap();
+        assert!(text::printed(&file("")) == file("-printed"), "{name}");
+    }
 }
 
 #[test]
@@ -111,9 +165,10 @@ fn powers_go_through_every_element_and_return_to_one() {
 }
 
 #[test]
-fn message_lengths_are_7_and_51() {
-    assert_eq!(Degree::ALL.map(Degree::k), [7, 51]);
-    assert_eq!(Degree::ALL.map(Degree::n), [16, 64]);
+fn message_lengths_are_7_51_and_113() {
+    assert_eq!(Degree::ALL.map(Degree::k), [7, 51, 113]);
+    assert_eq!(Degree::ALL.map(Degree::n), [16, 64, 128]);
+    assert_eq!(Degree::ALL.map(Degree::place), [0, 1, 2]);
 }
 
 #[test]
@@ -212,7 +267,8 @@ fn a_line_within_the_condition_comes_out_as_sent() {
             let mut line = sent.clone();
             places[..wrong].iter().for_each(|&cell| line[cell] ^= 1);
             places[wrong..].iter().for_each(|&cell| line[cell] = UNSURE);
-            assert_eq!(code.decode_line(&line, random.word()), Some(sent));
+            let filling = [random.word(), random.word()];
+            assert_eq!(code.decode_line(&line, filling), Some(sent));
         }
     }
 }
@@ -226,7 +282,7 @@ fn every_clause_gives_the_message_of_the_definition() {
         let (code, n) = (Code::of(degree), degree.n());
         for _ in 0..3000 {
             let (incoming, channel) = damaged_pair(code, &mut random);
-            let filling = random.word();
+            let filling = [random.word(), random.word()];
             let clauses = code.clauses(&incoming, &channel, filling);
             let own = code.decode_line(&incoming, filling);
             let codewords =
@@ -291,32 +347,28 @@ fn damaged_pair(code: &Code, random: &mut Random) -> (Vec<u8>, Vec<u8>) {
 #[test]
 fn the_row_condition_finds_the_sent_array() {
     let mut random = Random::new(8);
-    let code = four();
-    for _ in 0..50 {
-        let sent = code.encode(&random.bits(49));
-        let mut received = sent.clone();
-        for row in received.chunks_mut(16) {
-            let wrong = random.below(3);
-            let unsure = random.below(TOO_MANY - 2 * wrong);
-            let places = random.places(wrong + unsure, 16);
-            places[..wrong].iter().for_each(|&cell| row[cell] ^= 1);
-            places[wrong..].iter().for_each(|&cell| row[cell] = UNSURE);
+    for (degree, rounds) in Degree::ALL.into_iter().zip([50, 5, 2]) {
+        let code = Code::of(degree);
+        for _ in 0..rounds {
+            let sent = damage::sent(code, &mut random);
+            let received = damage::within_condition(&sent, code.n(), &mut random);
+            assert!(code.meets_row_condition(&sent, &received));
+            let iterations = random.between(1, 3) as u64;
+            let lines = degree.lines(iterations);
+            let filling = damage::any_filling(degree, lines, &mut random);
+            let (cells, report) = code.decode(iterations, &received, &filling);
+            assert_eq!(cells, sent);
+            assert!(report.closed);
+            assert_eq!(report.erasures, 0);
+            assert!(report.count <= (lines * (code.n() + 2)) as u64);
         }
-        assert!(code.meets_row_condition(&sent, &received));
-        let iterations = random.between(1, 3);
-        let filling = random.words(2 * iterations * 16);
-        let (cells, report) = code.decode(iterations as u64, &received, &filling);
-        assert_eq!(cells, sent);
-        assert!(report.closed);
-        assert_eq!(report.erasures, 0);
-        assert!(report.count <= (2 * iterations * 16 * (16 + 2)) as u64);
     }
 }
 
 #[test]
 fn tests_run_in_number_order() {
     use super::entries::*;
-    let filled = vec![7u64; 32];
+    let filled = vec![7u64; 64];
     let (good, bad) = (vec![0u8; 256], vec![3u8; 256]);
     let mut cells = vec![9u8; 256];
     let mut call = |degree, iterations, received: &[u8], long: usize, report: &mut [u64]| {
@@ -338,6 +390,8 @@ fn tests_run_in_number_order() {
     assert_eq!(call(4, 1, &bad, 255, &mut report), (3, true));
     assert_eq!(call(4, 1, &bad, 256, &mut report), (4, true));
     assert_eq!(call(4, 1, &bad, 256, &mut [5; 2]), (3, true));
+    // One number for each filling word, or two for each of twice as many.
+    assert_eq!(call(4, 2, &bad, 256, &mut report), (3, true));
     assert_eq!(call(4, 1, &good, 256, &mut report), (0, false));
     assert_eq!(report, [64, 0, 1]);
 }
@@ -359,10 +413,14 @@ fn malformed_texts() {
     let good = format!("4\n{}", line.repeat(16));
     let text = |input: &str| String::from_utf8(text::printed(input.as_bytes())).unwrap();
     assert!(text(&good).starts_with("0 64 0 1\n"));
-    for input in ["", "4", "\n", "04\n", "4\r\n", "5\n", "7\n", "44\n", " 4\n"] {
+    for input in [
+        "", "4", "7", "\n", "04\n", "4\r\n", "5\n", "8\n", "44\n", " 4\n",
+    ] {
         assert_eq!(text(input), "1 0 0 0\n", "{input:?}");
     }
-    assert_eq!(text("4\n"), "3 0 0 0\n");
+    for input in ["4\n", "6\n", "7\n"] {
+        assert_eq!(text(input), "3 0 0 0\n", "{input:?}");
+    }
     assert_eq!(text(&format!("{good}\n")), "3 0 0 0\n");
     assert_eq!(text(&good[..good.len() - 1]), "3 0 0 0\n");
     assert_eq!(text(&good.replacen("0\n0", "00\n", 1)), "3 0 0 0\n");

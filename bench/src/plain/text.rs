@@ -6,7 +6,7 @@ use super::{Code, Degree, UNSURE};
 pub fn printed(input: &[u8]) -> Vec<u8> {
     match cells_of(input) {
         Ok((degree, received)) => {
-            let (cells, report) = Code::of(degree).decode(1, &received, &vec![0; 2 * degree.n()]);
+            let (cells, report) = Code::of(degree).decode(1, &received, &vec![0; 4 * degree.n()]);
             let closed = u8::from(report.closed);
             let mut text =
                 format!("0 {} {} {closed}\n", report.count, report.erasures).into_bytes();
@@ -25,6 +25,7 @@ pub fn cells_of(input: &[u8]) -> Result<(Degree, Vec<u8>), u64> {
     let (degree, lines) = match input {
         [b'4', b'\n', lines @ ..] => (Degree::Four, lines),
         [b'6', b'\n', lines @ ..] => (Degree::Six, lines),
+        [b'7', b'\n', lines @ ..] => (Degree::Seven, lines),
         _ => return Err(1),
     };
     let n = degree.n();

@@ -1,7 +1,7 @@
 //! What the simulation saw, as tables and plots.
 
 use super::capacity::{best_gain, capacity};
-use super::{COUNT_ITERATIONS, Point, RATE_ITERATIONS, Seen, code_rate, sent_decibels};
+use super::{COUNT_ITERATIONS, Point, RATE_ITERATIONS, Seen, Survey, code_rate, sent_decibels};
 use crate::svg::{Axis, Plot, Series};
 
 /// The bit error rate at which the paper reads off its noise thresholds.
@@ -41,14 +41,15 @@ fn part_text(part: f64, whole: f64) -> String {
     }
 }
 
-/// What the thresholds that were tried are worth; the two best are that of the decoder and that of the capacity.
+/// What the thresholds that were tried are worth at a strength of the noise, given as Eb/N0 and as Es/N0 in decibels; the two
+/// best are that of the decoder and that of the capacity.
 pub fn print_thresholds(
-    decibels: f64,
+    [decibels, sent_decibels]: [f64; 2],
     thresholds: &[f64],
     results: &[Seen],
     [best, of_capacity]: [f64; 2],
 ) {
-    let bits = |threshold| capacity(sent_decibels(decibels), threshold);
+    let bits = |threshold| capacity(sent_decibels, threshold);
     println!(
         "Eb/N0 = {decibels:.2} dB, {} arrays, L = {RATE_ITERATIONS}:",
         results[0].arrays
@@ -86,21 +87,38 @@ fn threshold_text(threshold: f64) -> String {
     text.strip_suffix('0').unwrap_or(&text).to_string()
 }
 
-pub fn print_rates(points: &[Point], best: f64) {
-    let best = threshold_text(best);
-    println!("Bits wrong after decoding with L = {RATE_ITERATIONS}, T = 0 and T = {best}:");
-    println!();
-    println!(
-        "| Eb/N0, dB | Es/N0, dB | arrays | received wrong, T = 0 | bit error rate, T = 0 | bit error rate, T = {best} \
-         | closed, T = 0 | closed, T = {best} | closed and wrong, both |"
-    );
-    println!("|{}", "---|".repeat(9));
-    for point in points {
+impl Survey {
+    pub fn print_rates(&self) {
+        let best = threshold_text(self.best);
+        println!("Bits wrong after decoding with L = {RATE_ITERATIONS}, T = 0 and T = {best}:");
+        println!();
+        println!(
+            "| Eb/N0, dB | Es/N0, dB | arrays | received wrong, T = 0 | bit error rate, T = 0 | bit error rate, T = {best} \
+             | closed, T = 0 | closed, T = {best} | closed and wrong, both |"
+        );
+        println!("|{}", "---|".repeat(9));
+        for point in &self.points {
+            self.print_rate(point);
+        }
+        println!();
+        let points = &self.points;
+        if let (Some(hard), Some(marked)) = (crossing(points, 0), crossing(points, 1)) {
+            println!(
+                "A bit error rate of {TARGET:.0e} is reached at {hard:.2} dB without the mark and at {marked:.2} dB with it: \
+                 a gain of {:.2} dB. In capacity, the mark gains {:.2} dB at this rate.",
+                hard - marked,
+                best_gain(code_rate(self.degree))
+            );
+            println!();
+        }
+    }
+
+    fn print_rate(&self, point: &Point) {
         let [hard, marked] = [&point.results[0], &point.results[1]];
         println!(
             "| {:.3} | {:.2} | {} | {:.2}% | {} | {} | {} | {} | {} |",
             point.decibels,
-            sent_decibels(point.decibels),
+            sent_decibels(self.degree, point.decibels),
             hard.arrays,
             100.0 * hard.received_wrong / hard.bits,
             rate_text(hard),
@@ -113,68 +131,101 @@ pub fn print_rates(points: &[Point], best: f64) {
             )
         );
     }
-    println!();
-    if let (Some(hard), Some(marked)) = (crossing(points, 0), crossing(points, 1)) {
+
+    pub fn print_counts(&self) {
+        let best = threshold_text(self.best);
+        println!("Decodings for each row or column in {COUNT_ITERATIONS} iterations:");
+        println!();
         println!(
-            "A bit error rate of {TARGET:.0e} is reached at {hard:.2} dB without the mark and at {marked:.2} dB with it: \
-             a gain of {:.2} dB. In capacity, the mark gains {:.2} dB at this rate.",
-            hard - marked,
-            best_gain(code_rate())
+            "| Eb/N0, dB | all, T = 0 | all, T = {best} | to the first closed, T = 0 | to the first closed, T = {best} |"
         );
+        println!("|---|---|---|---|---|");
+        for point in &self.points {
+            let by_line = |sum: fn(&Seen) -> f64| {
+                let results = point.results.iter();
+                let numbers = results.map(|seen| sum(seen) / seen.lines(self.degree));
+                let texts: Vec<String> = numbers.map(|number| format!("{number:.2}")).collect();
+                texts.join(" | ")
+            };
+            println!(
+                "| {:.3} | {} | {} |",
+                point.decibels,
+                by_line(|seen| seen.decodings),
+                by_line(|seen| seen.decodings_to_closed)
+            );
+        }
         println!();
     }
-}
 
-pub fn print_counts(points: &[Point], best: f64) {
-    let best = threshold_text(best);
-    println!("Decodings for each row or column in {COUNT_ITERATIONS} iterations:");
-    println!();
-    println!(
-        "| Eb/N0, dB | all, T = 0 | all, T = {best} | to the first closed, T = 0 | to the first closed, T = {best} |"
-    );
-    println!("|---|---|---|---|---|");
-    for point in points {
-        let by_line = |sum: fn(&Seen) -> f64| {
-            let numbers = point.results.iter().map(|seen| sum(seen) / seen.lines());
-            let texts: Vec<String> = numbers.map(|number| format!("{number:.2}")).collect();
-            texts.join(" | ")
+    pub fn rate_plot(&self) -> Plot {
+        let best = threshold_text(self.best);
+        let curve = |name: String, value: &dyn Fn(&Point) -> f64| Series {
+            name,
+            points: self
+                .points
+                .iter()
+                .map(|point| (point.decibels, value(point)))
+                .collect(),
         };
-        println!(
-            "| {:.3} | {} | {} |",
-            point.decibels,
-            by_line(|seen| seen.decodings),
-            by_line(|seen| seen.decodings_to_closed)
-        );
+        Plot {
+            title: format!("Bit error rate, {}, L = {RATE_ITERATIONS}", self.size()),
+            x: Axis::linear("Eb/N0, dB"),
+            y: Axis::log("bit error rate"),
+            series: vec![
+                curve("received, T = 0".to_string(), &|point| {
+                    point.results[0].received_wrong / point.results[0].bits
+                }),
+                curve("decoded, T = 0".to_string(), &|point| {
+                    point.results[0].rate()
+                }),
+                curve(format!("decoded, T = {best}"), &|point| {
+                    point.results[1].rate()
+                }),
+            ],
+            zero: none_legend(&self.points),
+            source: self.run.clone(),
+        }
     }
-    println!();
-}
 
-pub fn rate_plot(points: &[Point], best: f64, run: &str) -> Plot {
-    let best = threshold_text(best);
-    let curve = |name: String, value: &dyn Fn(&Point) -> f64| Series {
-        name,
-        points: points
-            .iter()
-            .map(|point| (point.decibels, value(point)))
-            .collect(),
-    };
-    Plot {
-        title: format!("Bit error rate, 64 by 64, L = {RATE_ITERATIONS}"),
-        x: Axis::linear("Eb/N0, dB"),
-        y: Axis::log("bit error rate"),
-        series: vec![
-            curve("received, T = 0".to_string(), &|point| {
-                point.results[0].received_wrong / point.results[0].bits
-            }),
-            curve("decoded, T = 0".to_string(), &|point| {
-                point.results[0].rate()
-            }),
-            curve(format!("decoded, T = {best}"), &|point| {
-                point.results[1].rate()
-            }),
-        ],
-        zero: none_legend(points),
-        source: run.to_string(),
+    pub fn count_plot(&self) -> Plot {
+        let best = threshold_text(self.best);
+        let curve = |name: String, which: usize, sum: fn(&Seen) -> f64| Series {
+            name,
+            points: self
+                .points
+                .iter()
+                .map(|point| {
+                    let seen = &point.results[which];
+                    (point.decibels, sum(seen) / seen.lines(self.degree))
+                })
+                .collect(),
+        };
+        Plot {
+            title: format!(
+                "Decodings for each row or column, {}, at most {COUNT_ITERATIONS} iterations",
+                self.size()
+            ),
+            x: Axis::linear("Eb/N0, dB"),
+            y: Axis::linear("decodings"),
+            series: vec![
+                curve("all, T = 0".to_string(), 0, |seen| seen.decodings),
+                curve(format!("all, T = {best}"), 1, |seen| seen.decodings),
+                curve("to closed, T = 0".to_string(), 0, |seen| {
+                    seen.decodings_to_closed
+                }),
+                curve(format!("to closed, T = {best}"), 1, |seen| {
+                    seen.decodings_to_closed
+                }),
+            ],
+            zero: None,
+            source: self.run.clone(),
+        }
+    }
+
+    /// `64 by 64`.
+    fn size(&self) -> String {
+        let n = self.degree.n();
+        format!("{n} by {n}")
     }
 }
 
@@ -187,42 +238,10 @@ fn none_legend(points: &[Point]) -> Option<String> {
     shortest.map(none_text)
 }
 
-pub fn count_plot(points: &[Point], best: f64, run: &str) -> Plot {
-    let best = threshold_text(best);
-    let curve = |name: String, which: usize, sum: fn(&Seen) -> f64| Series {
-        name,
-        points: points
-            .iter()
-            .map(|point| {
-                let seen = &point.results[which];
-                (point.decibels, sum(seen) / seen.lines())
-            })
-            .collect(),
-    };
-    Plot {
-        title: format!(
-            "Decodings for each row or column, 64 by 64, at most {COUNT_ITERATIONS} iterations"
-        ),
-        x: Axis::linear("Eb/N0, dB"),
-        y: Axis::linear("decodings"),
-        series: vec![
-            curve("all, T = 0".to_string(), 0, |seen| seen.decodings),
-            curve(format!("all, T = {best}"), 1, |seen| seen.decodings),
-            curve("to closed, T = 0".to_string(), 0, |seen| {
-                seen.decodings_to_closed
-            }),
-            curve(format!("to closed, T = {best}"), 1, |seen| {
-                seen.decodings_to_closed
-            }),
-        ],
-        zero: None,
-        source: run.to_string(),
-    }
-}
-
 #[cfg(test)]
 mod tests {
     use super::*;
+    use crate::plain::Degree;
 
     fn seen(wrong: f64) -> Seen {
         Seen {
@@ -263,10 +282,18 @@ mod tests {
 
     #[test]
     fn the_plot_of_rates_explains_its_arrows() {
-        let some = [point(4.0, &[1e4, 1e3]), point(4.5, &[1e3, 10.0])];
-        assert!(!rate_plot(&some, 0.12, "a run").to_svg().contains("none in"));
-        let none = [point(4.0, &[1e4, 1e3]), point(4.5, &[1e3, 0.0])];
-        let svg = rate_plot(&none, 0.12, "a run").to_svg();
-        assert!(svg.contains("none in 1000000 bits</text>") && svg.contains("a run</text>"));
+        let svg = |last: &[f64]| {
+            let survey = Survey {
+                degree: Degree::Seven,
+                best: 0.12,
+                points: vec![point(4.0, &[1e4, 1e3]), point(4.5, last)],
+                run: "a run".to_string(),
+            };
+            survey.rate_plot().to_svg()
+        };
+        assert!(!svg(&[1e3, 10.0]).contains("none in"));
+        let none = svg(&[1e3, 0.0]);
+        assert!(none.contains("none in 1000000 bits</text>") && none.contains("a run</text>"));
+        assert!(none.contains("128 by 128"));
     }
 }

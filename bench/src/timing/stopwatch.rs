@@ -77,12 +77,12 @@ impl Load {
         arrays: usize,
         random: &mut Random,
     ) -> Load {
-        let words = 2 * iterations as usize * degree.n();
+        let lines = degree.lines(iterations);
         // All arrays before all filling words: settings that differ in the iterations alone then have the same arrays.
         let received: Vec<_> = (0..arrays).map(|_| received(random)).collect();
         let filled = received
             .into_iter()
-            .map(|cells| (cells, random.words(words)));
+            .map(|cells| (cells, damage::any_filling(degree, lines, random)));
         Load {
             degree,
             iterations,
@@ -90,14 +90,19 @@ impl Load {
         }
     }
 
+    /// Cells to decode an array into.
+    fn room(&self) -> Vec<u8> {
+        vec![0; self.degree.n() * self.degree.n()]
+    }
+
     /// Lines that one decoding of each array goes through.
     pub fn lines(&self) -> usize {
-        self.arrays.iter().map(|(_, filling)| filling.len()).sum()
+        self.arrays.len() * self.degree.lines(self.iterations)
     }
 }
 
 pub struct Stopwatch {
-    fast: [Decoder; 2],
+    fast: [Decoder; Degree::ALL.len()],
     rounds: usize,
 }
 
@@ -119,7 +124,7 @@ impl Stopwatch {
     pub fn reports(&self, maker: Maker, load: &Load) -> Vec<Report> {
         let arrays = 0..load.arrays.len();
         arrays
-            .map(|array| self.decode(maker, load, array))
+            .map(|array| self.decode(maker, load, array, &mut load.room()))
             .collect()
     }
 
@@ -149,10 +154,11 @@ impl Stopwatch {
             median(times.collect())
         });
         let library: f64 = library.sum();
+        let mut room = load.room();
         let start = Clock::now();
         let mut decodings = 0;
         while decodings < arrays || start.seconds() < LONG {
-            black_box(self.decode(Maker::Plain, load, decodings % arrays));
+            black_box(self.decode(Maker::Plain, load, decodings % arrays, &mut room));
             decodings += 1;
         }
         let plain = start.seconds() * arrays as f64 / decodings as f64;
@@ -173,19 +179,19 @@ impl Stopwatch {
 
     /// Seconds for one array.
     fn time(&self, maker: Maker, load: &Load, array: usize) -> f64 {
+        let mut room = load.room();
         let start = Instant::now();
-        black_box(self.decode(maker, load, array));
+        black_box(self.decode(maker, load, array, &mut room));
         start.elapsed().as_secs_f64()
     }
 
-    fn decode(&self, maker: Maker, load: &Load, array: usize) -> Report {
+    /// Decodes one array into these cells.
+    fn decode(&self, maker: Maker, load: &Load, array: usize, cells: &mut [u8]) -> Report {
         let Load {
             degree, iterations, ..
         } = *load;
         let (received, filling) = &load.arrays[array];
-        let fast = &self.fast[usize::from(degree == Degree::Six)];
-        let room = &mut [0; 64 * 64];
-        let cells = &mut room[..received.len()];
+        let fast = &self.fast[degree.place()];
         let report = match maker {
             Maker::Library => {
                 pugdrel::decode(degree.number(), iterations, received, filling, cells)

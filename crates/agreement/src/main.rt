@@ -19,19 +19,24 @@ use line::entry::MessagesAnswer;
 use line::entry::WordAnswer;
 use second::arrays::Cells;
 use second::arrays::Faults;
+use second::arrays::FillingNumbers;
 use second::arrays::area_of;
 use second::arrays::faults_in;
 use second::arrays::is_closed;
 use second::arrays::put_line;
 use second::arrays::take_line;
+use second::codes::cells_of;
+use second::codes::code_of;
 use second::codewords::Attempt;
 use second::codewords::Line;
 use second::codewords::Weights;
 use second::codewords::bounded_distance;
 use second::codewords::weights_of;
+use second::encoding::Message;
 use second::encoding::encode_line;
 use second::encoding::extract;
 use second::encoding::message_area;
+use second::lines::FillingWord;
 use second::lines::differences;
 use second::lines::messages;
 use second::lines::one_if;
@@ -47,27 +52,21 @@ use second::tallies::ROW;
 use second::tallies::Totals;
 use second::tallies::mix;
 use second::tallies::note;
+use second::tallies::room_of;
 use second::tallies::same;
 use second::tallies::say;
 use second::tallies::tick_if;
 ghost use Prim.Native.Nat.{_≤_, _<_};
 
-// n, the cells of a line, and the degree.
-fn cells_of(degree: u64) -> usize
-    ensures { λ r. ⌜ (16 ≤ r) × (r ≤ 64) ⌝ }
-{
-    if degree == 4 { 16 } else { 64 }
-}
-
 fn degree_of(n: usize) -> u64 {
-    if n == 16 { 4 } else { 6 }
+    code_of(n).degree
 }
 
 // ---- damage to a line
 
 // A codeword with up to 3 flips, or a word far from any.
 fn damaged_word(n: usize, state: &mut u64, sent: Line) -> Line
-    requires { ⌜ (0 < n) × (n ≤ 64) ⌝ }
+    requires { ⌜ (0 < n) × (n ≤ 128) ⌝ }
 {
     let flips = below(state, 5);
     if flips == 4 {
@@ -79,7 +78,7 @@ fn damaged_word(n: usize, state: &mut u64, sent: Line) -> Line
 
 // A sent codeword as the channel leaves it: mostly with near 6 unsure cells, where line decoding gives up.
 fn damaged_line(n: usize, state: &mut u64, sent: Line) -> Line
-    requires { ⌜ (0 < n) × (n ≤ 64) ⌝ }
+    requires { ⌜ (0 < n) × (n ≤ 128) ⌝ }
 {
     let flips = below(state, 4);
     let kind = below(state, 8);
@@ -89,7 +88,7 @@ fn damaged_line(n: usize, state: &mut u64, sent: Line) -> Line
 
 // The incoming line: the channel's with a few cells changed, or the same codeword with other damage.
 fn incoming_line(n: usize, state: &mut u64, sent: Line, channel: Line) -> Line
-    requires { ⌜ (0 < n) × (n ≤ 64) ⌝ }
+    requires { ⌜ (0 < n) × (n ≤ 128) ⌝ }
 {
     if below(state, 5) < 2 {
         let changes = below(state, 6);
@@ -101,12 +100,33 @@ fn incoming_line(n: usize, state: &mut u64, sent: Line, channel: Line) -> Line
 
 // ---- comparing
 
-fn note_line(tally: &mut Totals, own: &Line, given: &Line, numbers_agree: bool, number: u64) {
-    note(tally, own, given, 64, numbers_agree, number);
+fn note_line(
+    n: usize,
+    tally: &mut Totals,
+    own: &Line,
+    given: &Line,
+    numbers_agree: bool,
+    number: u64,
+) {
+    note(tally, own, given, room_of(n), numbers_agree, number);
 }
 
-fn note_cells(tally: &mut Totals, own: &Cells, given: &Cells, numbers_agree: bool, number: u64) {
-    note(tally, own, given, 4096, numbers_agree, number);
+fn note_cells(
+    n: usize,
+    tally: &mut Totals,
+    own: &Cells,
+    given: &Cells,
+    numbers_agree: bool,
+    number: u64,
+) {
+    note(
+        tally,
+        own,
+        given,
+        area_of(room_of(n)),
+        numbers_agree,
+        number,
+    );
 }
 
 fn same_cells(one: &Cells, other: &Cells) -> bool {
@@ -124,10 +144,10 @@ fn found_of(answer: LineAnswer) -> u64 {
     }
 }
 
-fn note_decoded(own: Attempt, given: Line, found: u64, tally: &mut Totals) {
+fn note_decoded(n: usize, own: Attempt, given: Line, found: u64, tally: &mut Totals) {
     let line = own.line;
     let number = one_if(own.found);
-    note_line(tally, &line, &given, found == number, number);
+    note_line(n, tally, &line, &given, found == number, number);
     tick_if(tally, OWN, own.found);
 }
 
@@ -142,7 +162,7 @@ fn changed_of(answer: WordAnswer) -> u64 {
 
 // The same of the second implementation.
 fn own_changed(n: usize, own: Attempt, word: Line) -> u64
-    requires { ⌜ n ≤ 64 ⌝ }
+    requires { ⌜ n ≤ 128 ⌝ }
 {
     let line = own.line;
     if own.found {
@@ -153,9 +173,9 @@ fn own_changed(n: usize, own: Attempt, word: Line) -> u64
 }
 
 // How many are found, and with how many cells changed.
-fn note_bounded(own: Attempt, number: u64, given: Line, told: u64, tally: &mut Totals) {
+fn note_bounded(n: usize, own: Attempt, number: u64, given: Line, told: u64, tally: &mut Totals) {
     let line = own.line;
-    note_line(tally, &line, &given, told == number, number);
+    note_line(n, tally, &line, &given, told == number, number);
     tick_if(tally, OWN, own.found);
     tick_if(tally, OWN + 1, number == 1);
     tick_if(tally, OWN + 2, number == 2);
@@ -163,12 +183,13 @@ fn note_bounded(own: Attempt, number: u64, given: Line, told: u64, tally: &mut T
 }
 
 fn test_bounded(n: usize, weights: &Weights, word: Line, tally: &mut Totals)
-    requires { ⌜ n ≤ 64 ⌝ }
+    requires { ⌜ n ≤ 128 ⌝ }
 {
     let own = bounded_distance(n, weights, word);
     let mut given = word;
     let answer = line::entry::bounded_distance(degree_of(n), &mut given[..n]);
     note_bounded(
+        n,
         own,
         own_changed(n, own, word),
         given,
@@ -177,39 +198,36 @@ fn test_bounded(n: usize, weights: &Weights, word: Line, tally: &mut Totals)
     );
 }
 
-// How many pairs the first two check sums can be.
-fn pairs_of(n: usize) -> u64 {
-    if n == 16 { 256 } else { 4096 }
-}
-
 // A word with an even number of ones, which has the digits of x in its first cells and 0 in all others but the last.
 fn word_of_digits(n: usize, x: u64) -> Line
-    requires { ⌜ (13 < n) × (n ≤ 64) ⌝ }
+    requires { ⌜ (15 < n) × (n ≤ 128) ⌝ }
 {
-    let mut word = [0u8; 64];
-    for i in 0..12 {
+    let mut word = [0u8; 128];
+    for i in 0..14 {
         word[i] = ((x >> i) % 2) as u8;
     }
     word[n - 1] = (u64::count_ones(x) % 2) as u8;
     word
 }
 
-// A word for each pair: the first cells, as many as check sums have digits, can have every pair, and each once.
+// A word for each pair of the first two check sums, of which there are n times n: the first cells, as many as these have digits, can have
+// every pair, and each once.
 fn test_check_sums(n: usize, weights: &Weights, tally: &mut Totals)
-    requires { ⌜ (13 < n) × (n ≤ 64) ⌝ }
+    requires { ⌜ (15 < n) × (n ≤ 128) ⌝ }
 {
-    for x in 0..pairs_of(n) {
+    let pairs = area_of(n) as u64;
+    for x in 0..pairs {
         test_bounded(n, weights, word_of_digits(n, x), tally);
     }
 }
 
-fn test_decode(n: usize, weights: &Weights, line: Line, filling: u64, tally: &mut Totals)
-    requires { ⌜ n ≤ 64 ⌝ }
+fn test_decode(n: usize, weights: &Weights, line: Line, filling: FillingWord, tally: &mut Totals)
+    requires { ⌜ n ≤ 128 ⌝ }
 {
     let own = second::lines::decode(n, weights, line, filling);
     let mut given = line;
-    let answer = line::entry::decode_line(degree_of(n), &mut given[..n], filling);
-    note_decoded(own, given, found_of(answer), tally);
+    let answer = line::entry::decode_line(degree_of(n), &mut given[..n], filling.low, filling.high);
+    note_decoded(n, own, given, found_of(answer), tally);
 }
 
 fn test_messages(
@@ -217,27 +235,28 @@ fn test_messages(
     weights: &Weights,
     incoming: Line,
     channel: Line,
-    filling: u64,
+    filling: FillingWord,
     tally: &mut Totals,
 )
-    requires { ⌜ n ≤ 64 ⌝ }
+    requires { ⌜ n ≤ 128 ⌝ }
 {
     let own = messages(n, weights, incoming, channel, filling, tally);
     let line = own.line;
     let count = own.count;
-    let mut given = [0u8; 64];
+    let mut given = [0u8; 128];
     let answer = line::entry::line_messages(
         degree_of(n),
         &incoming[..n],
         &channel[..n],
-        filling,
+        filling.low,
+        filling.high,
         &mut given[..n],
     );
     let agree = match answer {
         MessagesAnswer::Refused(_) => false,
         MessagesAnswer::Written(written) => written == count,
     };
-    note_line(tally, &line, &given, agree, count);
+    note_line(n, tally, &line, &given, agree, count);
 }
 
 // One codeword, damaged in each way; one of the entries on it.
@@ -249,7 +268,7 @@ fn test_line(
     state: &mut u64,
     tally: &mut Totals,
 )
-    requires { ⌜ (0 < n) × (n ≤ 64) ⌝ }
+    requires { ⌜ (0 < n) × (n ≤ 128) ⌝ }
 {
     let word = damaged_word(n, state, sent);
     let channel = damaged_line(n, state, sent);
@@ -267,10 +286,10 @@ fn test_line(
 
 // Codewords of messages by chance. Row 0 of a room keeps the last one, of which the next is made.
 fn test_lines(entry: usize, n: usize, weights: &Weights, many: usize, tally: &mut Totals)
-    requires { ⌜ (13 < n) × (n ≤ 64) ⌝ }
+    requires { ⌜ (15 < n) × (n ≤ 128) ⌝ }
 {
     let mut state: u64 = 88172645463325252;
-    let mut room = [0u8; 4096];
+    let mut room = [0u8; 16384];
     for _ in 0..many {
         let old = take_line(n, 0, &room);
         let sent = encode_line(n, hit_some(ANY_BIT, 200, n, &mut state, old));
@@ -281,12 +300,14 @@ fn test_lines(entry: usize, n: usize, weights: &Weights, many: usize, tally: &mu
 
 // ---- arrays
 
-// Iterations from 1 to 20; at degree 6, where they take long, mostly 1 to 3.
+// Iterations from 1 to 20; at degree 6, where they take long, mostly 1 to 3, and at degree 7, where they take longer, 1 or 2 and once 20.
 fn iterations_of(n: usize, trial: usize) -> usize
     ensures { λ r. ⌜ r ≤ 20 ⌝ }
 {
     if n == 16 {
         1 + trial % 20
+    } else if n == 128 {
+        if trial == 44 { 20 } else { 1 + trial % 8 / 7 }
     } else if trial % 5 == 0 {
         1 + trial / 5 % 20
     } else {
@@ -294,23 +315,21 @@ fn iterations_of(n: usize, trial: usize) -> usize
     }
 }
 
-type FillingWords = [u64; 2560];
-
 // 2 × L × n filling words.
 fn words_of(n: usize, iterations: usize) -> usize
-    requires { ⌜ iterations ≤ 20 ⌝ }
-    ensures { λ r. ⌜ r ≤ 2560 ⌝ }
+    requires { ⌜ (n ≤ 128) × (iterations ≤ 20) ⌝ }
+    ensures { λ r. ⌜ r ≤ 5120 ⌝ }
 {
-    if n == 16 {
-        iterations * 32
-    } else {
-        iterations * 128
-    }
+    2 * (iterations * n)
 }
 
-fn make_filling(kind: usize, state: &mut u64, filling: &mut FillingWords) {
-    for i in 0..2560 {
-        filling[i] = filling_word(state, kind);
+// Words for 20 iterations; at degree 4 as many as at degree 6.
+fn make_filling(n: usize, kind: usize, state: &mut u64, filling: &mut FillingNumbers) {
+    let many = words_of(room_of(n), 20);
+    for w in 0..many {
+        let word = filling_word(state, kind);
+        filling[2 * w] = word.low;
+        filling[2 * w + 1] = word.high;
     }
 }
 
@@ -336,11 +355,11 @@ fn own_decoding(
     n: usize,
     weights: &Weights,
     received: Cells,
-    filling: &FillingWords,
+    filling: &FillingNumbers,
     iterations: usize,
     tally: &mut Totals,
 ) -> Outcome
-    requires { ⌜ (0 < n) × (n ≤ 64) × (iterations ≤ 20) ⌝ }
+    requires { ⌜ (0 < n) × (n ≤ 128) × (iterations ≤ 20) ⌝ }
 {
     let mut cells = received;
     let many = words_of(n, iterations);
@@ -356,17 +375,17 @@ fn own_decoding(
 }
 
 // By the entry; a refused call has a count that no decoding has.
-fn given_decoding(n: usize, received: Cells, filling: FillingWords, iterations: usize) -> Outcome
-    requires { ⌜ iterations ≤ 20 ⌝ }
+fn given_decoding(n: usize, received: Cells, filling: FillingNumbers, iterations: usize) -> Outcome
+    requires { ⌜ (0 < n) × (n ≤ 128) × (iterations ≤ 20) ⌝ }
 {
     let area = area_of(n);
-    let many = words_of(n, iterations);
-    let mut cells = [0u8; 4096];
+    let numbers = 2 * words_of(n, iterations);
+    let mut cells = [0u8; 16384];
     let answer = array::entry::decode(
         degree_of(n),
         iterations as u64,
         &received[..area],
-        &filling[..many],
+        &filling[..numbers],
         &mut cells[..area],
     );
     match answer {
@@ -387,7 +406,14 @@ fn given_decoding(n: usize, received: Cells, filling: FillingWords, iterations: 
 
 // Besides, how many are closed, and in how many the sent array came out; of the arrays within the row condition, how many there are and in
 // how many of them both are so.
-fn note_decoding(kind: usize, sent: &Cells, own: Outcome, given: Outcome, tally: &mut Totals) {
+fn note_decoding(
+    n: usize,
+    kind: usize,
+    sent: &Cells,
+    own: Outcome,
+    given: Outcome,
+    tally: &mut Totals,
+) {
     let own_cells = own.cells;
     let given_cells = given.cells;
     let agree = (own.count == given.count)
@@ -395,6 +421,7 @@ fn note_decoding(kind: usize, sent: &Cells, own: Outcome, given: Outcome, tally:
         & (own.closed == given.closed);
     let restored = same_cells(&own_cells, sent);
     note_cells(
+        n,
         tally,
         &own_cells,
         &given_cells,
@@ -422,22 +449,22 @@ fn test_received(
     state: &mut u64,
     tally: &mut Totals,
 )
-    requires { ⌜ (0 < n) × (n ≤ 64) ⌝ }
+    requires { ⌜ (0 < n) × (n ≤ 128) ⌝ }
 {
     let iterations = iterations_of(n, trial);
-    let mut filling = [0u64; 2560];
-    make_filling(trial / KINDS % 3, state, &mut filling);
+    let mut filling = [0u64; 10240];
+    make_filling(n, trial / KINDS % 3, state, &mut filling);
     let own = own_decoding(n, weights, received, &filling, iterations, tally);
     let given = given_decoding(n, received, filling, iterations);
-    note_decoding(kind, sent, own, given, tally);
+    note_decoding(n, kind, sent, own, given, tally);
 }
 
 // One array, sent and damaged in one of the ways.
 fn test_array(n: usize, weights: &Weights, trial: usize, state: &mut u64, tally: &mut Totals)
-    requires { ⌜ (13 < n) × (n ≤ 64) ⌝ }
+    requires { ⌜ (15 < n) × (n ≤ 128) ⌝ }
 {
     let kind = trial % KINDS;
-    let mut sent = [0u8; 4096];
+    let mut sent = [0u8; 16384];
     make_sent(n, state, &mut sent);
     let mut received = sent;
     damage_array(n, kind, state, &mut received);
@@ -452,16 +479,16 @@ fn test_almost_closed(
     state: &mut u64,
     tally: &mut Totals,
 )
-    requires { ⌜ (13 < n) × (n ≤ 64) ⌝ }
+    requires { ⌜ (15 < n) × (n ≤ 128) ⌝ }
 {
-    let mut sent = [0u8; 4096];
+    let mut sent = [0u8; 16384];
     make_almost_closed(n, trial % ALMOST_CLOSED_KINDS, state, &mut sent);
     let received = sent;
     test_received(n, weights, trial, KINDS, &sent, received, state, tally);
 }
 
 fn test_decoding(almost_closed: bool, n: usize, weights: &Weights, many: usize, tally: &mut Totals)
-    requires { ⌜ (13 < n) × (n ≤ 64) ⌝ }
+    requires { ⌜ (15 < n) × (n ≤ 128) ⌝ }
 {
     let mut state: u64 = 2463534242;
     for trial in 0..many {
@@ -478,10 +505,12 @@ struct GivenArray {
     cells: Cells,
 }
 
-fn given_encoding(n: usize, message: [u8; 2601]) -> GivenArray {
+fn given_encoding(n: usize, message: Message) -> GivenArray
+    requires { ⌜ (15 < n) × (n ≤ 128) ⌝ }
+{
     let area = area_of(n);
     let long = message_area(n);
-    let mut cells = [0u8; 4096];
+    let mut cells = [0u8; 16384];
     let refusal = array::encoding::encode(degree_of(n), &message[..long], &mut cells[..area]);
     GivenArray {
         refusal: refusal,
@@ -490,32 +519,36 @@ fn given_encoding(n: usize, message: [u8; 2601]) -> GivenArray {
 }
 
 // Encodes the message of a sent array anew.
-fn test_encode(n: usize, sent: &Cells, tally: &mut Totals) {
-    let mut message = [0u8; 2601];
+fn test_encode(n: usize, sent: &Cells, tally: &mut Totals)
+    requires { ⌜ (15 < n) × (n ≤ 128) ⌝ }
+{
+    let mut message = [0u8; 12769];
     extract(n, sent, &mut message);
     let given = given_encoding(n, message);
     let cells = given.cells;
-    note_cells(tally, sent, &cells, given.refusal == 0, 0);
+    note_cells(n, tally, sent, &cells, given.refusal == 0, 0);
 }
 
-fn note_message(tally: &mut Totals, own: &[u8; 2601], given: &[u8; 2601], taken: bool) {
-    note(tally, own, given, 2601, taken, 0);
+fn note_message(n: usize, tally: &mut Totals, own: &Message, given: &Message, taken: bool) {
+    note(tally, own, given, message_area(room_of(n)), taken, 0);
 }
 
 // Takes the message out of a received array, unsure cells too.
-fn test_extract(n: usize, received: Cells, tally: &mut Totals) {
+fn test_extract(n: usize, received: Cells, tally: &mut Totals)
+    requires { ⌜ (15 < n) × (n ≤ 128) ⌝ }
+{
     let area = area_of(n);
     let long = message_area(n);
-    let mut own = [0u8; 2601];
-    let mut given = [0u8; 2601];
+    let mut own = [0u8; 12769];
+    let mut given = [0u8; 12769];
     extract(n, &received, &mut own);
     let refusal = array::extraction::extract(degree_of(n), &received[..area], &mut given[..long]);
-    note_message(tally, &own, &given, refusal == 0);
+    note_message(n, tally, &own, &given, refusal == 0);
 }
 
 // Looks up a row.
 fn test_row(n: usize, i: usize, cells: Cells, tally: &mut Totals)
-    requires { ⌜ (n ≤ 64) × (i < n) ⌝ }
+    requires { ⌜ (n ≤ 128) × (i < n) ⌝ }
 {
     let area = area_of(n);
     let own = take_line(n, i, &cells);
@@ -526,7 +559,7 @@ fn test_row(n: usize, i: usize, cells: Cells, tally: &mut Totals)
 }
 
 fn test_rows(n: usize, cells: Cells, tally: &mut Totals)
-    requires { ⌜ n ≤ 64 ⌝ }
+    requires { ⌜ n ≤ 128 ⌝ }
 {
     for i in 0..n {
         test_row(n, i, cells, tally);
@@ -535,10 +568,10 @@ fn test_rows(n: usize, cells: Cells, tally: &mut Totals)
 
 // The other entries on arrays.
 fn test_others(entry: usize, n: usize, many: usize, tally: &mut Totals)
-    requires { ⌜ (13 < n) × (n ≤ 64) ⌝ }
+    requires { ⌜ (15 < n) × (n ≤ 128) ⌝ }
 {
     let mut state: u64 = 521288629;
-    let mut cells = [0u8; 4096];
+    let mut cells = [0u8; 16384];
     for trial in 0..many {
         make_sent(n, &mut state, &mut cells);
         if entry == ENCODE {
@@ -566,7 +599,7 @@ fn say_clauses(tally: &Totals) {
 
 // An entry on words or lines.
 fn run_lines(entry: usize, n: usize, weights: &Weights, many: usize, line: &[u8])
-    requires { ⌜ (13 < n) × (n ≤ 64) ⌝ }
+    requires { ⌜ (15 < n) × (n ≤ 128) ⌝ }
 {
     let mut tally = [0u64; 32];
     test_lines(entry, n, weights, many, &mut tally);
@@ -577,7 +610,7 @@ fn run_lines(entry: usize, n: usize, weights: &Weights, many: usize, line: &[u8]
 }
 
 fn run_check_sums(n: usize, weights: &Weights)
-    requires { ⌜ (13 < n) × (n ≤ 64) ⌝ }
+    requires { ⌜ (15 < n) × (n ≤ 128) ⌝ }
 {
     let mut tally = [0u64; 32];
     test_check_sums(n, weights, &mut tally);
@@ -589,7 +622,7 @@ fn run_check_sums(n: usize, weights: &Weights)
 }
 
 fn run_decoding(almost_closed: bool, n: usize, weights: &Weights, many: usize, line: &[u8])
-    requires { ⌜ (13 < n) × (n ≤ 64) ⌝ }
+    requires { ⌜ (15 < n) × (n ≤ 128) ⌝ }
 {
     let mut tally = [0u64; 32];
     test_decoding(almost_closed, n, weights, many, &mut tally);
@@ -603,7 +636,7 @@ fn run_decoding(almost_closed: bool, n: usize, weights: &Weights, many: usize, l
 }
 
 fn run_others(entry: usize, n: usize, many: usize, line: &[u8])
-    requires { ⌜ (13 < n) × (n ≤ 64) ⌝ }
+    requires { ⌜ (15 < n) × (n ≤ 128) ⌝ }
 {
     let mut tally = [0u64; 32];
     test_others(entry, n, many, &mut tally);
@@ -612,7 +645,7 @@ fn run_others(entry: usize, n: usize, many: usize, line: &[u8])
 
 // The entries on words and lines.
 fn run_line_entries(n: usize, weights: &Weights, many: usize)
-    requires { ⌜ (13 < n) × (n ≤ 64) ⌝ }
+    requires { ⌜ (15 < n) × (n ≤ 128) ⌝ }
 {
     run_lines(
         BOUNDED_DISTANCE,
@@ -640,7 +673,7 @@ fn run_line_entries(n: usize, weights: &Weights, many: usize)
 
 // The entries on arrays.
 fn run_array_entries(n: usize, weights: &Weights, many: usize)
-    requires { ⌜ (13 < n) × (n ≤ 64) ⌝ }
+    requires { ⌜ (15 < n) × (n ≤ 128) ⌝ }
 {
     run_decoding(
         false,
@@ -682,4 +715,5 @@ fn run_degree(degree: u64, lines: usize, arrays: usize) {
 fn main() {
     run_degree(4, 20000, 1530);
     run_degree(6, 3000, 255);
+    run_degree(7, 1000, 51);
 }

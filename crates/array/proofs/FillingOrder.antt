@@ -1,6 +1,5 @@
 -- The order of the filling words: an iteration's column half takes the n words after the row half's, and each iteration those after the
--- one before. With an example of a row half
--- in which two equal lines come out differently, for their words differ.
+-- one before. With an example of a row half in which two equal lines come out differently, for their words differ.
 -- Assumes nothing.
 use mathlib.Core.Path.{_≡_, refl, sym, ap, _∙_}
 use mathlib.Core.List.{List, _∷_, _++_}

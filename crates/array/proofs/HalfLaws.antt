@@ -81,7 +81,7 @@ pub record RowsAt (d : Degree) (m rows₀ channel w s rows : List ℕ) (count i 
   pub low : i ≤ size d
   pub place : at ≡ i * size d
   pub long : length s ≡ size d * size d
-  pub small : count ≤ 130 * i
+  pub small : count ≤ 258 * i
   pub done : (r : List ℕ) → Held (size d) m rows₀ → Held (size d) r channel → HalfAt d m r w s rows count i
 
 pub rows-start : {d : Degree} (m rows channel w : List ℕ) → length m ≡ size d * size d → RowsAt d m rows channel w m rows 0 0 0
@@ -129,7 +129,7 @@ module _ {d : Degree} {m rows₀ channel w s rows : List ℕ} {count i at n : �
           rw (e, a, line-back (size d) i at s (k .place)) (half-next t inside b c put);
     }
 
-  pub rows-end : n ≤ i → (count ≤ 8320) × ((r : List ℕ) → Held (size d) m rows₀ → Held (size d) r channel → StepDone (size d) (rowHalf d m r w) (rowCount d m r w) s rows count)
+  pub rows-end : n ≤ i → (count ≤ 33024) × ((r : List ℕ) → Held (size d) m rows₀ → Held (size d) r channel → StepDone (size d) (rowHalf d m r w) (rowCount d m r w) s rows count)
   rows-end h =
       let z : i ≡ size d = omega (arith, k .low) in
       (omega (arith, k .small, size-room d), λ r held channel. half-end (k .done r held channel) z)
@@ -139,7 +139,7 @@ module _ {d : Degree} {m rows₀ channel w s rows : List ℕ} {count i at n : �
 -- i lines of what columns₀ hold are done
 pub record ColumnsAt (d : Degree) (columns₀ channel w columns : List ℕ) (count i : ℕ) : Type 0 where
   pub low : i ≤ size d
-  pub small : count ≤ 130 * i
+  pub small : count ≤ 258 * i
   pub done : (m r : List ℕ) → Held (size d) m columns₀ → Held (size d) r channel → HalfAt d m r w (soFar (size d) (sent d m r w) m i) columns count i
 
 again : {d : Degree} {m r w s rows : List ℕ} {count i : ℕ} → HalfAt d m r w s rows count i → HalfAt d m r w (soFar (size d) (sent d m r w) m i) rows count i
@@ -150,7 +150,7 @@ columns-start columns channel w = record { low = omega arith; small = omega arit
 
 module _ {d : Degree} {columns₀ channel w columns : List ℕ} {count i n : ℕ} (k : ColumnsAt d columns₀ channel w columns count i) (e : n ≡ size d) where
   pub columns-next : {y l : Line} {columns′ : List ℕ} {v : LineTally} → i < n → LineIn columns i y → LineIn channel i l
-      → (v .count ≤ 130) × ((ys rs : List ℕ) → Packs (size d) ys y → Packs (size d) rs l → Packs (size d) (messages (bounded d) ys rs (getD w i 0)) (v .line) × (v .count ≡ countOf (bounded d) ys rs (getD w i 0)))
+      → (v .count ≤ 258) × ((ys rs : List ℕ) → Packs (size d) ys y → Packs (size d) rs l → Packs (size d) (messages (bounded d) ys rs (getD w i 0)) (v .line) × (v .count ≡ countOf (bounded d) ys rs (getD w i 0)))
       → LinePut columns i (v .line) columns′ → ColumnsAt d columns₀ channel w columns′ (count + v .count) (i + 1)
   columns-next {y} {l} {columns′} {v} h f g q put = record {
     low = omega arith;
@@ -163,7 +163,7 @@ module _ {d : Degree} {columns₀ channel w columns : List ℕ} {count i n : ℕ
         again (half-next t inside {v = v} (b .0) (b .1) put);
   }
 
-  pub columns-end : n ≤ i → (count ≤ 8320)
+  pub columns-end : n ≤ i → (count ≤ 33024)
       × ((m r : List ℕ) → Held (size d) m columns₀ → Held (size d) r channel → Held (size d) (rowHalf d m r w) columns × (count ≡ rowCount d m r w))
   columns-end h =
       let z : i ≡ size d = omega (arith, k .low) in
@@ -220,16 +220,16 @@ module _ {m₀ old rows m : List ℕ} {i at n : ℕ} (k : Writing n m₀ old row
 
 -- ---- the column half, from its parts
 
-pub columns-done : (d : Degree) (w : List ℕ) {m rows channel columns sent rows′ after : List ℕ} {count : ℕ} → RowsTurned rows columns
-    → (count ≤ 8320) × ((m r : List ℕ) → Held (size d) m columns → Held (size d) r channel → Held (size d) (rowHalf d m r w) sent × (count ≡ rowCount d m r w))
-    → RowsTurned sent rows′ → ((t : List ℕ) → Held (size d) m rows → Held (size d) t rows′ → after ≡ t)
-    → (count ≤ 8320)
+pub columns-done : (d : Degree) (w : List ℕ) {m rows channel columns sent rows′ after : List ℕ} {count : ℕ} → RowsTurned (size d) rows columns
+    → (count ≤ 33024) × ((m r : List ℕ) → Held (size d) m columns → Held (size d) r channel → Held (size d) (rowHalf d m r w) sent × (count ≡ rowCount d m r w))
+    → RowsTurned (size d) sent rows′ → ((t : List ℕ) → Held (size d) m rows → Held (size d) t rows′ → after ≡ t)
+    → (count ≤ 33024)
     × ((r : List ℕ) → Held (size d) m rows → Held (size d) (transpose (size d) (size d) r) channel → StepDone (size d) (columnHalf d m r w) (columnCount d m r w) after rows′ count)
 unfolding columnHalf columnCount
 columns-done d w {m} s q t e = (
   q .0,
   λ r held channel.
-      let h = q .1 _ _ (s (size d) m held) channel in
-      let k = t (size d) _ (h .0) in
+      let h = q .1 _ _ (s m held) channel in
+      let k = t _ (h .0) in
       record { cells = e _ held k; held = k; sum = h .1 },
 )

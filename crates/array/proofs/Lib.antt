@@ -18,3 +18,4 @@ pub mod SentArrays
 pub mod ClosedLaws
 pub mod HalfLines
 pub mod FillingOrder
+pub mod Fillings

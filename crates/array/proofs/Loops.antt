@@ -2,15 +2,18 @@
 -- Assumes nothing.
 use mathlib.Core.Path.{_≡_, refl, sym, ap, _∙_, subst}
 use mathlib.Core.List.{List}
+use mathlib.Core.Logic.{inl}
 use Prim.Native.Nat.{ℕ, suc, _+_, _-_, _*_, _<_, _≤_}
 use native.Mathlib.Nat.{zero-mul, suc-mul, add-zero, add-assoc, not-suc-le-zero}
 use native.Mathlib.Decide.{ℕ-discrete}
 use native.Mathlib.Omega.{arith}
 use borrow.Rule.Slice.PartMut.{putMid}
-use lib.ListN.{length, take, drop, getD, set, length-set, length-drop}
-use lib.Seq.{length-take-le, getD-take, getD-drop, ext-getD, getD-set-same, getD-set-other}
+use lib.ListN.{length, take, drop, getD, length-drop}
+use lib.Seq.{length-take-le, getD-take, getD-drop, ext-getD}
 use Rattle.degree.specs.declared.Degree.{Degree}
 use Rattle.degree.specs.Degree.{size}
+use Rattle.words.specs.working.Grid.{wordIn, wordPut}
+use Rattle.words.proofs.GridLaws.{put-long, put-same, put-other}
 use Rattle.line.specs.Cells.{IsWord}
 use Rattle.line.specs.working.Packed.{PacksWord}
 use Rattle.line.specs.Encoding.{messageSize, encodeLine}
@@ -20,14 +23,14 @@ use Rattle.array.proofs.ArrayLaws.{Even, line-at, line-cells, length-li
 use Rattle.array.proofs.WrittenLines.{Lining, part-at, lining-start, lining-room, lining-part, lining-put, lining-all}
 use Rattle.line.proofs.Bounds.{square-le, message-le}
 
--- what holds of the first a entries of a list, and of the next one that is put, holds of one entry more
-put-next : (P : ℕ → ℕ → Type 0) (l : List ℕ) (a x : ℕ) → a < length l → ((b : ℕ) → b < a → P b (getD l b 0)) → P a x
-    → (b : ℕ) → b < a + 1 → P b (getD (set l a x) b 0)
-put-next P l a x h first next b q = pick (ℕ-discrete b a)
+-- what holds of the first a words of a grid, and of the next one that is put, holds of one word more
+put-next : (P : ℕ → ℕ → Type 0) (g : List ℕ) (a v : ℕ) → a < 128 → length g ≡ 256 → ((b : ℕ) → b < a → P b (wordIn g 0 b)) → P a v
+    → (b : ℕ) → b < a + 1 → P b (wordIn (wordPut g 0 a v) 0 b)
+put-next P g a v h l first next b q = pick (ℕ-discrete b a)
   where
-    pick : Dec (b ≡ a) → P b (getD (set l a x) b 0)
-    pick (yes z) = rw (z, getD-set-same l a x 0 h) next
-    pick (no z) = rw (getD-set-other l a b x 0 z) (first b (omega (arith, z)))
+    pick : Dec (b ≡ a) → P b (wordIn (wordPut g 0 a v) 0 b)
+    pick (yes z) = rw (z, put-same g 0 a v h (omega arith)) next
+    pick (no z) = rw (put-other g 0 a v 0 b h (omega arith) (λ e. z) (inl refl)) (first b (omega (arith, z)))
 
 -- ---- the message rows, a row a turn
 
@@ -36,7 +39,7 @@ pub record Encoding (d : Degree) (k : ℕ) (m ws₀ ws : List ℕ) (a at : ℕ) 
   pub low : a ≤ k
   pub place : at ≡ a * k
   pub long : length ws ≡ length ws₀
-  pub words : (b : ℕ) → b < a → PacksWord (size d) (encodeLine d (line k m b)) (getD ws b 0)
+  pub words : (b : ℕ) → b < a → PacksWord (size d) (encodeLine d (line k m b)) (wordIn ws 0 b)
 
 pub encoding-start : (d : Degree) (k : ℕ) (m ws : List ℕ) → k ≡ messageSize d → Encoding d k m ws ws 0 0
 encoding-start d k m ws e = record {
@@ -53,7 +56,7 @@ module _ {d : Degree} {k : ℕ} {m ws₀ ws : List ℕ} {a at : ℕ} (w : Encodi
 
   pub encoding-end : k ≤ a → EncodedRows d m ws
   encoding-end h = record {
-    at = λ b q. subst (λ (x : ℕ). PacksWord (size d) (encodeLine d (line x m b)) (getD ws b 0)) (w .count) (w .words b (omega (arith, w .count)));
+    at = λ b q. subst (λ (x : ℕ). PacksWord (size d) (encodeLine d (line x m b)) (wordIn ws 0 b)) (w .count) (w .words b (omega (arith, w .count)));
   }
 
   module _ (h : a < k) where
@@ -61,11 +64,11 @@ module _ {d : Degree} {k : ℕ} {m ws₀ ws : List ℕ} {a at : ℕ} (w : Encodi
     encoding-part = part-at at k m (w .place)
 
     -- there is a word for the row
-    pub encoding-word : length ws₀ ≡ 64 → a < length ws
-    encoding-word l = omega (arith, w .long, message-le d (w .count))
+    pub encoding-word : length ws₀ ≡ 256 → (a < 128) × (0 + 256 ≤ length ws)
+    encoding-word l = (omega (arith, message-le d (w .count)), omega (arith, w .long))
 
     -- the row lies within the message, and its end fits
-    pub encoding-room : IsWord (messageSize d * messageSize d) m → (at + k ≤ length m) × (at + k ≤ 4096)
+    pub encoding-room : IsWord (messageSize d * messageSize d) m → (at + k ≤ length m) × (at + k ≤ 16384)
     encoding-room M =
         let r : at + k ≤ k * k = omega (arith, w .place, line-room k k a h) in
         (omega (arith, whole M .long), omega (arith, square-le k (message-le d (w .count))))
@@ -73,14 +76,14 @@ module _ {d : Degree} {k : ℕ} {m ws₀ ws : List ℕ} {a at : ℕ} (w : Encodi
     pub encoding-cells : IsWord (messageSize d * messageSize d) m → IsWord (messageSize d) (take (at + k - at) (drop at m))
     encoding-cells M = subst (λ (x : ℕ). IsWord x (take (at + k - at) (drop at m))) (w .count) (rw encoding-part (line-cells k k a (whole M) h))
 
-    pub encoding-next : length ws₀ ≡ 64 → (x : ℕ) {word : ℕ} → x ≡ word → PacksWord (size d) (encodeLine d (take (at + k - at) (drop at m))) word
-        → Encoding d k m ws₀ (set ws a x) (a + 1) (at + k)
-    encoding-next l x f e = record {
+    pub encoding-next : length ws₀ ≡ 256 → (word : ℕ) → PacksWord (size d) (encodeLine d (take (at + k - at) (drop at m))) word
+        → Encoding d k m ws₀ (wordPut ws 0 a word) (a + 1) (at + k)
+    encoding-next l word e = record {
       count = w .count;
       low = omega arith;
       place = omega (arith, w .place, suc-mul a k);
-      long = length-set ws a x ∙ w .long;
-      words = put-next (λ b y. PacksWord (size d) (encodeLine d (line k m b)) y) ws a x (encoding-word l) (w .words) (rw (f, ← encoding-part) e);
+      long = put-long ws 0 a word ∙ w .long;
+      words = put-next (λ b y. PacksWord (size d) (encodeLine d (line k m b)) y) ws a word (encoding-word l .0) (w .long ∙ l) (w .words) (rw (← encoding-part) e);
     }
 
 -- ---- message cells copied out of an array, a row a turn
@@ -91,7 +94,7 @@ inner n k p a i = take k (drop p (line n a (p + i)))
 
 pub record Taking (n k p : ℕ) (a old new : List ℕ) (i from to : ℕ) : Type 0 where
   pub room : p + k ≤ n
-  pub small : n ≤ 64
+  pub small : n ≤ 128
   pub whole : length a ≡ n * n
   pub source : from ≡ (p + i) * n + p
   pub lining : Lining k (inner n k p a) k 0 old new i to
@@ -115,7 +118,7 @@ inner-length : (n k p : ℕ) (a : List ℕ) → p + k ≤ n → length a ≡ n *
 inner-length n k p a r l i h =
     length-take-le k (drop p (line n a (p + i))) (rw length-drop (omega (arith, length-line n n a (p + i) (omega arith) l)))
 
-pub taking-start : (n k p : ℕ) (a old : List ℕ) → p + k ≤ n → n ≤ 64 → length a ≡ n * n → length old ≡ k * k
+pub taking-start : (n k p : ℕ) (a old : List ℕ) → p + k ≤ n → n ≤ 128 → length a ≡ n * n → length old ≡ k * k
     → Taking n k p a old old 0 (p * n + p) 0
 taking-start n k p a old r s l m = record {
   room = r;
@@ -131,9 +134,9 @@ module _ {n k p : ℕ} {a old new : List ℕ} {i from to : ℕ} (w : Taking n k 
   taking-source = omega (arith, w .room, w .source, line-room n n (p + i) (omega (arith, w .room)))
 
   -- both ends fit
-  pub taking-fits : (from + k ≤ 4096) × (to + k ≤ 4096)
+  pub taking-fits : (from + k ≤ 16384) × (to + k ≤ 16384)
   taking-fits =
-      let l : k ≤ 64 = omega (arith, w .room, w .small) in
+      let l : k ≤ 128 = omega (arith, w .room, w .small) in
       (omega (arith, taking-source, square-le n (w .small)), omega (arith, lining-room (w .lining) h, square-le k l))
 
   source-part : take (from + k - from) (drop from a) ≡ inner n k p a i

@@ -22,6 +22,7 @@ use Rattle.line.proofs.UnitLaws.{pack-packs, unit-bit}
 use Rattle.array.specs.Arrays.{line, lines}
 use Rattle.array.specs.Encoding.{encodeLines, encodeArray, ProductCodeword}
 use Rattle.array.specs.working.EncodedRows.{EncodedRows}
+use Rattle.words.specs.working.Grid.{wordIn}
 use Rattle.words.specs.working.Sums.{chosenSum}
 use Rattle.array.proofs.ArrayLaws.{line-at, lines-are}
 use Rattle.array.proofs.ArrayEncoding.{line-coded, encoded-line, cell-rows, encode-codeword}
@@ -51,7 +52,7 @@ module _ (d : Degree) (t : List ℕ) (U : Units d t) (m : List ℕ) (M : IsWord 
 
   -- row i as a number
   packed-row : (i : ℕ) → i < size d
-      → pack (line (size d) array i) ≡ xorTo (messageSize d) (λ a. bitAt (getD t a 0) i * pack (encodeLine d (rowOf a)))
+      → pack (line (size d) array i) ≡ xorTo (messageSize d) (λ a. bitAt (wordIn t 0 a) i * pack (encodeLine d (rowOf a)))
   packed-row i h =
       let w = summed d i h .weight in
       sum-to (λ j. 2 ^ j) (line (size d) array i)
@@ -64,7 +65,7 @@ module _ (d : Degree) (t : List ℕ) (U : Units d t) (m : List ℕ) (M : IsWord 
       to-cong (size d) _ _ (λ j q. mul-right-comm (Q a j) (w a) (2 ^ j))
       ∙ sym (to-map (λ x. x * w a) (size d) (λ j. Q a j * 2 ^ j) (times-adds (summed d i h .small a)))
       ∙ ap₂ (λ (x y : ℕ). x * y) (sym (pack-row a z)) (sym (unit-bit d t U i a h z))
-      ∙ mul-comm (pack (encodeLine d (rowOf a))) (bitAt (getD t a 0) i))
+      ∙ mul-comm (pack (encodeLine d (rowOf a))) (bitAt (wordIn t 0 a) i))
 
   -- the rows made from the words of the encoded message rows are the array's
   packed-array : (ws : List ℕ) → EncodedRows d m ws
@@ -75,7 +76,7 @@ module _ (d : Degree) (t : List ℕ) (U : Units d t) (m : List ℕ) (M : IsWord 
       (λ i h.
       let r = line (size d) array i in
       let same : chosenSum t ws (messageSize d) i ≡ pack r =
-      to-cong (messageSize d) _ _ (λ a z. ap (λ (x : ℕ). bitAt (getD t a 0) i * x) (W .at a z .ones ∙ pack-packs (encodeLine d (rowOf a))))
+      to-cong (messageSize d) _ _ (λ a z. ap (λ (x : ℕ). bitAt (wordIn t 0 a) i * x) (W .at a z .ones ∙ pack-packs (encodeLine d (rowOf a))))
       ∙ sym (packed-row i h) in
       ap (digits (size d)) same ∙ ap (λ (x : ℕ). digits x (pack r)) (sym (A .rows i h .word .long)) ∙ digits-pack r (A .rows i h .word .small))
 

@@ -4,15 +4,16 @@
 use mathlib.Core.Path.{_≡_, refl, sym, ap, ap₂, _∙_}
 use mathlib.Core.Bool.{Bool, true, false}
 use mathlib.Core.List.{List, [], _∷_, _++_, append-assoc, append-nil}
-use mathlib.Core.Logic.{dite}
-use Prim.Native.Nat.{ℕ, suc, _+_, _-_, _*_, _%_, _<_, _≤_}
-use native.Mathlib.Nat.{suc-mul, zero-mul}
+use mathlib.Core.Logic.{dite, inl, inr}
+use Prim.Native.Nat.{ℕ, suc, _+_, _-_, _*_, _/_, _%_, _^_, _<_, _≤_}
+use native.Mathlib.Nat.{suc-mul, zero-mul, lt-of-lt-of-le}
 use native.Mathlib.Numerals.{add-one}
 use native.Mathlib.Omega.{arith}
 use native.Mathlib.Decide.{decLt, ℕ-discrete}
 use borrow.Rule.Slice.PartMut.{putMid}
-use lib.ListN.{length, take, drop, getD, set, length-append, length-drop, length-set, replicate, length-replicate, drop-of-length-le}
-use lib.Seq.{length-take-le, drop-drop, drop-at, take-at, take-take, take-add, drop-append-le, take-append-le, getD-take, getD-set-same, getD-set-other}
+use lib.ListN.{length, take, drop, getD, length-append, length-drop, replicate, length-replicate, drop-of-length-le}
+use lib.Pow.{pow-mono, shr-lt}
+use lib.Seq.{length-take-le, drop-drop, drop-at, take-at, take-take, take-add, drop-append-le, take-append-le}
 use Rattle.degree.specs.declared.Degree.{Degree}
 use Rattle.degree.specs.Degree.{size}
 use Rattle.laws.specs.Bits.{bit}
@@ -20,16 +21,17 @@ use Rattle.laws.proofs.Lists.{zeros-at}
 use Rattle.line.specs.working.Packed.{IsLine, isOne, packBy, Packs}
 use Rattle.line.specs.Cells.{isErased}
 use Rattle.line.specs.declared.packed.Line.{Line}
-use Rattle.line.specs.working.Word.{value}
+use Rattle.words.specs.working.Word.{value, width}
+use Rattle.line.proofs.PackBits.{packBy-lt}
 use Rattle.line.proofs.RowLaws.{size-room, size-eights}
-use Rattle.words.specs.working.Network.{Turned}
-use Rattle.words.proofs.ZeroLaws.{Zeros, zeros-turned}
+use Rattle.words.specs.working.Grid.{wordIn, wordPut, Small, Narrow, GridTurned}
+use Rattle.words.proofs.GridLaws.{put-long, put-same, put-other, put-small, word-small, word-stands, zeros-word, narrow-words}
 use Rattle.array.specs.Arrays.{line, lines}
-use Rattle.array.specs.working.PackedRows.{withLine, RowWords, Held, LineIn, LinePut, BlocksTurned, RowsTurned}
+use Rattle.array.specs.working.PackedRows.{withLine, RowWords, Held, LineIn, LinePut, RowsTurned}
 use Rattle.array.specs.working.Steps.{IsArray}
 use Rattle.array.proofs.ArrayLaws.{Even, line-room, length-line, line-small, line-cells, transpose-cells, each-cell, line-at, length-lines, lines-are}
 use Rattle.array.proofs.WrittenLines.{part-at}
-use Rattle.array.proofs.WordLaws.{words-turned}
+use Rattle.array.proofs.WordLaws.{length-line-le, line-past, words-turned}
 
 -- ---- lines of parts
 
@@ -59,8 +61,8 @@ module _ (n i : ℕ) (m y : List ℕ) (fits : i * n + n ≤ length m) (same : le
   put-length = simp (length-append, length-drop, length-take-le at m (omega arith), same) (omega arith)
 
   -- line i is y
-  put-same : line n (withLine n m i y) i ≡ y
-  put-same =
+  put-same-line : line n (withLine n m i y) i ≡ y
+  put-same-line =
       ap (take n) (drop-at (take at m) (y ++ drop n (drop at m)) at (length-take-le at m (omega arith)))
       ∙ take-at y (drop n (drop at m)) n same
 
@@ -81,8 +83,8 @@ module _ (n i : ℕ) (m y : List ℕ) (fits : i * n + n ≤ length m) (same : le
       ∙ ap (drop (k * n - (at + n))) put-drop ∙ drop-drop (k * n - (at + n)) (at + n) m ∙ ap (λ (x : ℕ). drop x m) e)
 
   -- the other lines stay
-  put-other : (k : ℕ) → (k ≡ i → ⊥) → line n (withLine n m i y) k ≡ line n m k
-  put-other k ne = dite (decLt k i) (λ h. put-below k h) (λ h. put-above k (omega (arith, h, ne)))
+  put-other-line : (k : ℕ) → (k ≡ i → ⊥) → line n (withLine n m i y) k ≡ line n m k
+  put-other-line k ne = dite (decLt k i) (λ h. put-below k h) (λ h. put-above k (omega (arith, h, ne)))
 
 -- the cells stay below 3
 with-line-cells : (n i : ℕ) (m y : List ℕ) → IsLine (n * n) m → i < n → IsLine n y → IsLine (n * n) (withLine n m i y)
@@ -98,8 +100,8 @@ with-line-cells n i m y a h b = record { long = long; small = each-cell (λ x. x
     cells k j p q =
         rw (← line-at n (withLine n m i y) k j q)
         (dite (ℕ-discrete k i)
-        (λ e. rw (e, put-same n i m y room (b .long)) (b .small j))
-        (λ e. rw (put-other n i m y room (b .long) k e) (line-cells n n k a p .small j)))
+        (λ e. rw (e, put-same-line n i m y room (b .long)) (b .small j))
+        (λ e. rw (put-other-line n i m y room (b .long) k e) (line-cells n n k a p .small j)))
 
 -- the first lines of an array replaced
 abbrev pub soFar : ℕ → (ℕ → List ℕ) → List ℕ → ℕ → List ℕ
@@ -129,7 +131,7 @@ module _ (n : ℕ) (g : ℕ → List ℕ) (m : List ℕ) where
 -- ---- an array and its packed rows
 
 -- there is a word for each line; n is the code's number for `size d`
-pub index-room : (d : Degree) {n i : ℕ} → n ≡ size d → i < n → i < 64
+pub index-room : (d : Degree) {n i : ℕ} → n ≡ size d → i < n → i < width
 index-room d e h = omega (arith, size-room d)
 
 -- line i of m is lent as the part from `at` to `at + n`, and comes back as y
@@ -150,86 +152,92 @@ row-within n i m l h = omega (arith, line-room n n i h)
 
 -- one word made another where one line is another
 words-put : (p : ℕ → Bool) (n i : ℕ) (m m′ : List ℕ) (before after : ℕ → ℕ) → RowWords p n m before → after i ≡ packBy p (line n m′ i)
-    → ((k : ℕ) → k < 64 → (k ≡ i → ⊥) → after k ≡ before k) → ((k : ℕ) → (k ≡ i → ⊥) → line n m′ k ≡ line n m k) → RowWords p n m′ after
+    → ((k : ℕ) → k < width → (k ≡ i → ⊥) → after k ≡ before k) → ((k : ℕ) → (k ≡ i → ⊥) → line n m′ k ≡ line n m k) → RowWords p n m′ after
 words-put p n i m m′ before after w e others same k h =
     dite (ℕ-discrete k i) (λ q. rw q e) (λ q. others k h q ∙ w k h ∙ ap (packBy p) (sym (same k q)))
 
 -- the words of line i pack row i
-pub held-line : (rows : List ℕ) (i : ℕ) (l : Line) → value (l .ones) ≡ getD rows i 0 → value (l .erased) ≡ getD rows (64 + i) 0 → LineIn rows i l
+pub held-line : (rows : List ℕ) (i : ℕ) (l : Line) → value (l .ones) ≡ wordIn rows 0 i → value (l .erased) ≡ wordIn rows 256 i → LineIn rows i l
 held-line rows i l e f n m k h =
-    let q : i < 64 = omega (arith, k .room) in
+    let q : i < width = omega (arith, k .room) in
     record { room = k .room; cells = line-cells n n i (k .array) h; ones = e ∙ k .ones i q; erased = f ∙ k .erased i q }
 
+-- a packed line fits two numbers
+pack-fits : {n : ℕ} {v : ℕ} (p : ℕ → Bool) (cs : List ℕ) → length cs ≡ n → n ≤ width → v ≡ packBy p cs → v / 2 ^ 64 < 2 ^ 64
+pack-fits {n} p cs l h e =
+    let few : length cs ≤ 64 + 64 = omega arith in
+    shr-lt 64 64 (rw e (lt-of-lt-of-le (packBy-lt p cs) (pow-mono few)))
+
 -- the words of line i made those of l
-pub held-put : (rows : List ℕ) (i : ℕ) (l : Line) → i < 64 → LinePut rows i l (set (set rows i (value (l .ones))) (64 + i) (value (l .erased)))
+pub held-put : (rows : List ℕ) (i : ℕ) (l : Line) → i < width → LinePut rows i l (wordPut (wordPut rows 0 i (value (l .ones))) 256 i (value (l .erased)))
 held-put rows i l few n m y k h p = record {
   room = k .room;
   array = with-line-cells n i m y (k .array) h (p .cells);
-  long = length-set one (64 + i) (value (l .erased)) ∙ length-set rows i (value (l .ones)) ∙ k .long;
-  ones = words-put isOne n i m (withLine n m i y) (λ j. getD rows j 0) (λ j. getD both j 0) (k .ones)
-      (getD-set-other one (64 + i) i (value (l .erased)) 0 (λ e. omega arith) ∙ getD-set-same rows i (value (l .ones)) 0 (omega (arith, k .long)) ∙ p .ones ∙ ap (packBy isOne) here)
-      (λ j q ne. getD-set-other one (64 + i) j (value (l .erased)) 0 (λ e. omega arith) ∙ getD-set-other rows i j (value (l .ones)) 0 ne) elsewhere;
-  erased = words-put isErased n i m (withLine n m i y) (λ j. getD rows (64 + j) 0) (λ j. getD both (64 + j) 0) (k .erased)
-      (getD-set-same one (64 + i) (value (l .erased)) 0 (omega (arith, k .long, length-set rows i (value (l .ones)))) ∙ p .erased ∙ ap (packBy isErased) here)
-      (λ j q ne. getD-set-other one (64 + i) (64 + j) (value (l .erased)) 0 (λ e. ne (omega arith)) ∙ getD-set-other rows i (64 + j) (value (l .ones)) 0 (λ e. omega arith)) elsewhere;
+  long = put-long one 256 i (value (l .erased)) ∙ put-long rows 0 i (value (l .ones)) ∙ k .long;
+  small = put-small one 256 i (value (l .erased)) (put-small rows 0 i (value (l .ones)) (k .small) (pack-fits isOne y (p .cells .long) (k .room) (p .ones))) (pack-fits isErased y (p .cells .long) (k .room) (p .erased));
+  ones = words-put isOne n i m (withLine n m i y) (λ j. wordIn rows 0 j) (λ j. wordIn both 0 j) (k .ones)
+      (apart i few ∙ put-same rows 0 i (value (l .ones)) few (omega (arith, k .long)) ∙ p .ones ∙ ap (packBy isOne) here)
+      (λ j q ne. apart j q ∙ put-other rows 0 i (value (l .ones)) 0 j few q (λ e. ne) (inl refl)) elsewhere;
+  erased = words-put isErased n i m (withLine n m i y) (λ j. wordIn rows 256 j) (λ j. wordIn both 256 j) (k .erased)
+      (put-same one 256 i (value (l .erased)) few (omega (arith, k .long, put-long rows 0 i (value (l .ones)))) ∙ p .erased ∙ ap (packBy isErased) here)
+      (λ j q ne. put-other one 256 i (value (l .erased)) 256 j few q (λ e. ne) (inl refl) ∙ put-other rows 0 i (value (l .ones)) 256 j few q (λ e. absurd (omega arith)) (inr (inr (omega arith)))) elsewhere;
 }
   where
     one : List ℕ
-    one = set rows i (value (l .ones))
+    one = wordPut rows 0 i (value (l .ones))
 
     both : List ℕ
-    both = set one (64 + i) (value (l .erased))
+    both = wordPut one 256 i (value (l .erased))
+
+    -- the second grid lies apart from the first
+    apart : (j : ℕ) → j < width → wordIn both 0 j ≡ wordIn one 0 j
+    apart j q = put-other one 256 i (value (l .erased)) 0 j few q (λ e. absurd (omega arith)) (inr (inl (omega arith)))
 
     room : i * n + n ≤ length m
     room = row-within n i m (k .array .long) h
 
     here : y ≡ line n (withLine n m i y) i
-    here = sym (put-same n i m y room (p .cells .long))
+    here = sym (put-same-line n i m y room (p .cells .long))
 
     elsewhere : (j : ℕ) → (j ≡ i → ⊥) → line n (withLine n m i y) j ≡ line n m j
-    elsewhere = put-other n i m y room (p .cells .long)
+    elsewhere = put-other-line n i m y room (p .cells .long)
 
--- both blocks of words transposed hold the transposed array
-pub held-turned : (rows after : List ℕ) → BlocksTurned rows after → RowsTurned rows after
-held-turned rows after t n m k = record {
+-- ---- transposed
+
+packBy-none : (p : ℕ → Bool) → p 0 ≡ false → (xs : List ℕ) → ((i : ℕ) → getD xs i 0 ≡ 0) → packBy p xs ≡ 0
+unfolding packBy
+packBy-none p z [] h = refl
+packBy-none p z (x ∷ xs) h = ap₂ (λ (w : ℕ) (b : Bool). w * 2 + bit b) (packBy-none p z xs (λ i. h (suc i))) (ap p (h 0) ∙ z)
+
+-- the grid of an array's lines is narrow where n is at most 64
+held-narrow : (p : ℕ → Bool) → p 0 ≡ false → (n base : ℕ) (m rows : List ℕ) → length m ≡ n * n → n ≤ 64 → Small rows → RowWords p n m (λ i. wordIn rows base i) → Narrow base rows
+held-narrow p z n base m rows l few small w =
+    narrow-words rows base small
+    (λ i h. rw (w i (omega arith)) (lt-of-lt-of-le (packBy-lt p (line n m i)) (pow-mono {i = length (line n m i)} {j = 64} (omega (arith, length-line-le n m i)))))
+    (λ i h q. w i q ∙ packBy-none p z (line n m i) (λ j. line-past n m l i j (omega arith)))
+
+-- both grids transposed hold the transposed array
+pub held-turned : (n : ℕ) (rows half after : List ℕ) (narrow : Bool) → (narrow ≡ true → n ≤ 64)
+    → (Small rows → (narrow ≡ true → Narrow 0 rows) → GridTurned 0 rows half) → (Small half → (narrow ≡ true → Narrow 256 half) → GridTurned 256 half after)
+    → length after ≡ length rows → RowsTurned n rows after
+held-turned n rows half after narrow few one two long m k = record {
   room = k .room;
   array = transpose-cells n n (k .array);
-  long = t .long;
-  ones = words-turned isOne n m (λ i. getD rows i 0) (λ i. getD after i 0) refl (k .room) (k .array .long) (k .ones)
-      (λ i h. rw (low after i h) at (t .first .small i)) (λ i j h q. rw (low after i h, low rows j q) at (t .first .bits i j h q));
-  erased = words-turned isErased n m (λ i. getD rows (64 + i) 0) (λ i. getD after (64 + i) 0) refl (k .room) (k .array .long) (k .erased)
-      (λ i h. rw (line-at 64 after 1 i h) at (t .second .small i)) (λ i j h q. rw (line-at 64 after 1 i h, line-at 64 rows 1 j q) at (t .second .bits i j h q));
+  long = long ∙ k .long;
+  small = second .small;
+  ones = words-turned isOne n m (λ i. wordIn rows 0 i) (λ i. wordIn after 0 i) refl (k .room) (k .array .long) (k .ones)
+      (λ i h. word-small after 0 i (second .small))
+      (λ i j h q. rw (word-stands 256 256 0 i half after (second .stays) h (inl (omega arith))) (first .bits i j h q));
+  erased = words-turned isErased n m (λ i. wordIn rows 256 i) (λ i. wordIn after 256 i) refl (k .room) (k .array .long) (k .erased)
+      (λ i h. word-small after 256 i (second .small))
+      (λ i j h q. rw (← word-stands 0 256 256 j rows half (first .stays) q (inr (omega arith))) (second .bits i j h q));
 }
   where
-    low : (words : List ℕ) (i : ℕ) → i < 64 → getD (line 64 words 0) i 0 ≡ getD words i 0
-    low words i h = getD-take 64 words i 0 h
+    first : GridTurned 0 rows half
+    first = one (k .small) (λ e. held-narrow isOne refl n 0 m rows (k .array .long) (few e) (k .small) (k .ones))
 
--- the first block transposed, and then the second, or not, where it is 0
-module _ (rows y : List ℕ) (long : length rows ≡ 128) (t : Turned (line 64 rows 0) y) where
-  abbrev half : List ℕ
-  half = withLine 64 rows 0 y
-
-  half-long : length half ≡ 128
-  half-long = put-length 64 0 rows y (omega arith) (t .long) ∙ long
-
-  other-stands : line 64 half 1 ≡ line 64 rows 1
-  other-stands = put-other 64 0 rows y (omega arith) (t .long) 1 (λ e. omega arith)
-
-  pub first-turned : Zeros (line 64 half 1) (length (line 64 half 1)) ≡ true → BlocksTurned rows half
-  first-turned z = record {
-    long = half-long;
-    first = rw (put-same 64 0 rows y (omega arith) (t .long)) t;
-    second = rw (← other-stands) (zeros-turned (line 64 half 1) (length-line 2 64 half 1 (omega arith) half-long) z);
-  }
-
-  pub both-turned : (z : List ℕ) → Turned (line 64 half 1) z → BlocksTurned rows (withLine 64 half 1 z)
-  both-turned z s =
-      let room : 1 * 64 + 64 ≤ length half = omega (arith, half-long) in
-      record {
-        long = put-length 64 1 half z room (s .long) ∙ half-long;
-        first = rw (put-other 64 1 half z room (s .long) 0 (λ e. omega arith), put-same 64 0 rows y (omega arith) (t .long)) t;
-        second = rw (put-same 64 1 half z room (s .long), ← other-stands) s;
-      }
+    second : GridTurned 256 half after
+    second = two (first .small) (λ e i h q. first .stays (256 + i) (inr (omega arith)) ∙ held-narrow isErased refl n 256 m rows (k .array .long) (few e) (k .small) (k .erased) i h q)
 
 -- ---- the rows packed, a row a turn
 
@@ -237,19 +245,15 @@ module _ (rows y : List ℕ) (long : length rows ≡ 128) (t : Turned (line 64 r
 abbrev blank : ℕ → List ℕ
 blank n = replicate (n * n) 0
 
-packBy-none : (p : ℕ → Bool) → p 0 ≡ false → (xs : List ℕ) → ((i : ℕ) → getD xs i 0 ≡ 0) → packBy p xs ≡ 0
-unfolding packBy
-packBy-none p z [] h = refl
-packBy-none p z (x ∷ xs) h = ap₂ (λ (w : ℕ) (b : Bool). w * 2 + bit b) (packBy-none p z xs (λ i. h (suc i))) (ap p (h 0) ∙ z)
-
 -- words that are 0 hold it
-blank-held : (n : ℕ) → n ≤ 64 → Held n (blank n) (replicate 128 0)
+blank-held : (n : ℕ) → n ≤ width → Held n (blank n) (replicate 512 0)
 blank-held n few = record {
   room = few;
   array = record { long = length-replicate {A = ℕ} (n * n) 0; small = λ i. rw (zeros-at (n * n) i) (omega arith) };
-  long = length-replicate {A = ℕ} 128 0;
-  ones = λ i h. zeros-at 128 i ∙ sym (none isOne refl i);
-  erased = λ i h. zeros-at 128 (64 + i) ∙ sym (none isErased refl i);
+  long = length-replicate {A = ℕ} 512 0;
+  small = λ i. rw (zeros-at 512 i) (omega arith);
+  ones = λ i h. zeros-word 512 0 i ∙ sym (none isOne refl i);
+  erased = λ i h. zeros-word 512 256 i ∙ sym (none isErased refl i);
 }
   where
     none : (p : ℕ → Bool) → p 0 ≡ false → (i : ℕ) → packBy p (line n (blank n) i) ≡ 0
@@ -261,7 +265,7 @@ pub record Packing (n : ℕ) (m rows : List ℕ) (i at : ℕ) : Type 0 where
   pub place : at ≡ i * n
   pub held : Held n (soFar n (line n m) (blank n) i) rows
 
-pub packing-start : (d : Degree) {n : ℕ} (m : List ℕ) {rows : List ℕ} → n ≡ size d → rows ≡ replicate 128 0 → Packing n m rows 0 0
+pub packing-start : (d : Degree) {n : ℕ} (m : List ℕ) {rows : List ℕ} → n ≡ size d → rows ≡ replicate 512 0 → Packing n m rows 0 0
 packing-start d {n} m e z = record {
   low = omega arith;
   place = sym (zero-mul n);
@@ -280,7 +284,7 @@ module _ (d : Degree) {m rows : List ℕ} {i at n : ℕ} (a : IsArray d m) (k : 
   lent : take (at + n - at) (drop at m) ≡ line n m i
   lent = part-at at n m (k .place)
 
-  pub packing-lent : i < n → (length (take (at + n - at) (drop at m)) ≤ 64) × (length (take (at + n - at) (drop at m)) % 8 ≡ 0) × ((j : ℕ) → getD (take (at + n - at) (drop at m)) j 0 < 3)
+  pub packing-lent : i < n → (length (take (at + n - at) (drop at m)) ≤ width) × (length (take (at + n - at) (drop at m)) % 8 ≡ 0) × ((j : ℕ) → getD (take (at + n - at) (drop at m)) j 0 < 3)
   packing-lent h =
       let l : IsLine n (line n m i) = line-cells n n i array h in
       rw lent (rw (l .long, e) (size-room d), rw (l .long, e) (size-eights d), l .small)

@@ -10,7 +10,6 @@ use borrow.Author.Tests.{eqb-false, ltb-false, leb-false}
 use lib.Dec.{eqb, ltb}
 use lib.ListN.{length, take, drop}
 use Rattle.degree.specs.declared.Degree.{Degree}
-use Rattle.degree.specs.declared.Degree.the-variants.{Four, Six}
 use Rattle.degree.specs.declared.Named.the-variants.{Known}
 use Rattle.degree.specs.Degree.{bits, size, named}
 use Rattle.line.specs.declared.refusals.Call.{Call}
@@ -30,8 +29,7 @@ use Rattle.array.proofs.WrittenLines.{part-at}
 -- ---- k by the degree that a number names
 
 bits-message : (d : Degree) → messageCells (bits d) ≡ messageSize d
-bits-message Four = refl
-bits-message Six = refl
+bits-message d = let e : 2 * bits d ≡ bits d + bits d = omega arith in ap (λ (x : ℕ). 2 ^ bits d - 1 - x) e
 
 pub known-message : (degree : ℕ) (d : Degree) → named degree ≡ Known d → messageCells degree ≡ messageSize d
 known-message degree d e = ap messageCells (known-bits degree d e) ∙ bits-message d
@@ -90,7 +88,7 @@ module _ (degree : ℕ) (cells : List ℕ) (index : ℕ) (d : Degree) where
 
 -- it lies within the array, and its ends fit
 pub row-room : (d : Degree) (index : ℕ) {n : ℕ} → n ≡ size d → index < size d
-    → (index * n + n ≤ size d * size d) × (size d * size d ≤ 4096)
+    → (index * n + n ≤ size d * size d) × (size d * size d ≤ 16384)
 row-room d index {n} e h =
     (rw e (line-room (size d) (size d) index h), square-le (size d) (size-le d refl))
 
@@ -105,9 +103,9 @@ few-iterations l e =
     let h = some-none (eqb l 0 ∷ ltb 20 l ∷ []) (rw (or-false (ltb 20 l)) e) in
     (omega (arith, eqb-false l 0 (h .0)), omega (arith, ltb-false 20 l (h .1 .0)))
 
--- the filling words of them fit a number; n is the code's number for `size d`
-pub words-room : (d : Degree) (n l : ℕ) → n ≡ size d → l ≤ 20 → 2 * l * n ≤ 2560
-words-room d n l e h = mul-le-mul {n₁ = 2 * l} {m₁ = n} {n₂ = 40} {m₂ = 64} (omega arith) (size-le d e)
+-- the numbers of their filling words fit a number; n is the code's number for `size d`
+pub words-room : (d : Degree) (n l : ℕ) → n ≡ size d → l ≤ 20 → 4 * l * n ≤ 10240
+words-room d n l e h = mul-le-mul {n₁ = 4 * l} {m₁ = n} {n₂ = 80} {m₂ = 128} (omega arith) (size-le d e)
 
 module _ (d : Degree) (l : ℕ) (r w s : List ℕ) where
   pub decode-iterations : (eqb l 0 || ltb 20 l) ≡ true → 2 ≡ refusal (decodeTests (bits d) l r w s [])
@@ -115,11 +113,11 @@ module _ (d : Degree) (l : ℕ) (r w s : List ℕ) where
   decode-iterations e = rw (bits-named d, e)
 
   pub decode-lengths : (c : Call) {n : ℕ} → (eqb l 0 || ltb 20 l) ≡ false → n ≡ size d
-      → Tested (bits d) ((3, misfit (length r) (n * n) || (misfit (length w) (2 * l * n) || misfit (length s) (n * n))) ∷ (4, not (atMost 2 r)) ∷ []) c
+      → Tested (bits d) ((3, misfit (length r) (n * n) || (misfit (length w) (4 * l * n) || misfit (length s) (n * n))) ∷ (4, not (atMost 2 r)) ∷ []) c
       → Tested (bits d) (decodeTests (bits d) l r w s []) c
   unfolding decodeTests
   decode-lengths c {n} e f h =
-      tested-known (bits d) d ((3, misfit (length r) (n * n) || (misfit (length w) (2 * l * n) || misfit (length s) (n * n))) ∷ (4, not (atMost 2 r)) ∷ [])
+      tested-known (bits d) d ((3, misfit (length r) (n * n) || (misfit (length w) (4 * l * n) || misfit (length s) (n * n))) ∷ (4, not (atMost 2 r)) ∷ [])
       (decodeTests (bits d) l r w s []) c (bits-named d)
       (rw (bits-named d, e, f, or-false (misfit (length s) (size d * size d)))) h
 
@@ -128,17 +126,17 @@ module _ (degree l : ℕ) (r w s : List ℕ) (d : Degree) where
   decode-known c e h = rw (known-bits degree d e) h
 
   pub decode-takes : (refusal (decodeTests degree l r w s []) ≡ 0) × (named degree ≡ Known d)
-      → IsArray d r × (length s ≡ size d * size d) × (length w ≡ 2 * l * size d) × (l ≤ 20) × (1 ≤ l)
+      → IsArray d r × (length s ≡ size d * size d) × (length w ≡ 4 * l * size d) × (l ≤ 20) × (1 ≤ l)
   unfolding decodeTests
   decode-takes h =
       let k = 2 ^ degree in
       let e = known-size degree d (h .1) in
       let n = none-applies (decodeTests degree l r w s []) tt (h .0) in
-      let m = some-none (misfit (length r) (k * k) ∷ misfit (length w) (2 * l * k) ∷ misfit (length s) (k * k) ∷ []) (n .1 .1 .0) in
+      let m = some-none (misfit (length r) (k * k) ∷ misfit (length w) (4 * l * k) ∷ misfit (length s) (k * k) ∷ []) (n .1 .1 .0) in
       let i = few-iterations l (n .1 .0) in (
         record { long = square-fits (length r) e (m .0); small = cells-small 2 r (n .1 .1 .1 .0) },
         square-fits (length s) e (m .1 .1 .0),
-        fits (length w) (2 * l * k) (m .1 .0) ∙ ap (λ (x : ℕ). 2 * l * x) e,
+        fits (length w) (4 * l * k) (m .1 .0) ∙ ap (λ (x : ℕ). 4 * l * x) e,
         i .1,
         i .0,
       )

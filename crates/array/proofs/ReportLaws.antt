@@ -19,8 +19,8 @@ use Rattle.line.specs.Cells.{bit, isErased, erasures}
 use Rattle.line.specs.Codeword.{isCodeword}
 use Rattle.line.specs.working.Packed.{Packs, PacksWord}
 use Rattle.line.specs.declared.packed.Line.{Line}
-use Rattle.line.specs.declared.word.Word.{Word}
-use Rattle.line.specs.working.Word.{value}
+use Rattle.words.specs.declared.word.Word.{Word}
+use Rattle.words.specs.working.Word.{value}
 use Rattle.line.proofs.RowLaws.{size-room}
 use Rattle.array.specs.declared.report.Report.{Report}
 use Rattle.array.specs.Arrays.{line, transpose}
@@ -42,7 +42,7 @@ erasures-append (x ∷ xs) ys =
 -- the sum over the first i lines
 pub record Counting (n : ℕ) (rows : List ℕ) (sum i : ℕ) : Type 0 where
   pub low : i ≤ n
-  pub small : sum ≤ 64 * i
+  pub small : sum ≤ 128 * i
   pub done : (m : List ℕ) → Held n m rows → sum ≡ erasures (take (i * n) m)
 
 pub counting-start : (n : ℕ) (rows : List ℕ) → Counting n rows 0 0
@@ -50,7 +50,7 @@ unfolding erasures
 counting-start n rows = record { low = omega arith; small = omega arith; done = λ m k. rw zero-mul }
 
 pub counting-next : {n : ℕ} {rows : List ℕ} {sum i k : ℕ} {l : Line} → Counting n rows sum i → i < n → LineIn rows i l
-    → (k ≤ 64) × ((n : ℕ) (cs : List ℕ) → Packs n cs l → k ≡ erasures cs) → Counting n rows (sum + k) (i + 1)
+    → (k ≤ 128) × ((n : ℕ) (cs : List ℕ) → Packs n cs l → k ≡ erasures cs) → Counting n rows (sum + k) (i + 1)
 counting-next {n} {rows} {sum} {i} c h f b = record {
   low = omega arith;
   small = omega (arith, c .small);
@@ -120,22 +120,22 @@ told-open d e z m h =
 
 -- with none it is closed where all rows and columns are codewords
 pub told-full : (d : Degree) {rows columns : List ℕ} {t k : ℕ} {b : Bool} → ((m : List ℕ) → Held (size d) m rows → k ≡ erasures m) → k ≡ 0
-    → RowsTurned rows columns → ((m : List ℕ) → IsFull d m → Held (size d) m rows → Held (size d) (transpose (size d) (size d) m) columns → b ≡ linesTo d m (size d))
+    → RowsTurned (size d) rows columns → ((m : List ℕ) → IsFull d m → Held (size d) m rows → Held (size d) (transpose (size d) (size d) m) columns → b ≡ linesTo d m (size d))
     → (m : List ℕ) → Held (size d) m rows → Told d m t (record { count = t; erasures = k; closed = b })
 unfolding closed
 told-full d {rows} {columns} {t} {k} {b} e z s f m h =
     let q = e m h in
     let full : IsFull d m = record { long = h .array .long; small = no-erasures m (h .array .small) (sym q ∙ z) } in
-    record { count = refl; erasures = q; closed = f m full h (s (size d) m h) ∙ sym (ap (λ (b : Bool). b && linesTo d m (size d)) (eq-eqb (erasures m) 0 (sym q ∙ z))) }
+    record { count = refl; erasures = q; closed = f m full h (s m h) ∙ sym (ap (λ (b : Bool). b && linesTo d m (size d)) (eq-eqb (erasures m) 0 (sym q ∙ z))) }
 
 -- ---- the whole decoding
 
 -- the iterations start from the array that is the channel's, its rows and columns packed; what they leave is told
-pub decoded : (d : Degree) (l : ℕ) (r w : List ℕ) {m s rows across down left : List ℕ} {count : ℕ} {t : Report} → m ≡ r → Held (size d) r across → RowsTurned across down → rows ≡ across
+pub decoded : (d : Degree) (l : ℕ) (r w : List ℕ) {m s rows across down left : List ℕ} {count : ℕ} {t : Report} → m ≡ r → Held (size d) r across → RowsTurned (size d) across down → rows ≡ across
     → ((r : List ℕ) → Started (size d) m r rows across down → StepDone (size d) (plain d l m r w) (plainCount d l m r w) s left count)
     → ((m : List ℕ) → Held (size d) m left → Told d m count t) → DecodingDone d l r w s t
 decoded d l r w {m} e h turned same run told =
-    let k = run r (record { held = rw (e, same) h; across = h; down = turned (size d) r h }) in
+    let k = run r (record { held = rw (e, same) h; across = h; down = turned r h }) in
     let f = rw e at (k .cells) in
     let tell = told _ (k .held) in
     record { cells = f; count = tell .count ∙ rw e at (k .sum); erasures = rw e at (tell .erasures); closed = rw e at (tell .closed) }

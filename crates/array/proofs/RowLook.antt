@@ -5,9 +5,9 @@ use mathlib.Core.List.{List, []}
 use Prim.Native.Nat.{ℕ, _<_}
 use native.Mathlib.Omega.{arith}
 use Rattle.degree.specs.declared.Degree.{Degree}
-use Rattle.degree.specs.declared.Degree.the-variants.{Four, Six}
 use Rattle.degree.specs.declared.Named.the-variants.{Known}
-use Rattle.degree.specs.Degree.{size, named}
+use lib.Pow.{pow-pos}
+use Rattle.degree.specs.Degree.{bits, size, named}
 use Rattle.line.proofs.Refusing.{given-taken}
 use Rattle.array.specs.Arrays.{line, lines}
 use Rattle.array.specs.Refusals.{rowTests}
@@ -16,8 +16,7 @@ use Rattle.array.proofs.ArrayLaws.{lines-are}
 use Rattle.array.proofs.Refusing.{row-taken}
 
 positive : (d : Degree) → 0 < size d
-positive Four = omega arith
-positive Six = omega arith
+positive d = pow-pos (bits d)
 
 pub rows-whole : (d : Degree) (degree : ℕ) (cells : List ℕ) → named degree ≡ Known d → ((i : ℕ) → i < size d → rowRefusal degree cells i ≡ 0)
     → lines (rowPart degree cells) (size d) ≡ cells

@@ -7,16 +7,17 @@ use native.Mathlib.Nat.{suc-mul, zero-mul, sub-zero, zero-add, add-zero, add-ass
 use native.Mathlib.Numerals.{add-one}
 use native.Mathlib.Omega.{arith}
 use lib.ListN.{length, take, drop, length-drop}
-use lib.Seq.{drop-drop, take-all}
+use lib.Seq.{take-all}
 use Rattle.degree.specs.declared.Degree.{Degree}
 use Rattle.degree.specs.Degree.{size}
 use Rattle.line.proofs.RowLaws.{size-room}
 use Rattle.array.specs.Arrays.{transpose}
 use Rattle.array.specs.Halves.{rowHalf, columnHalf, rowCount, columnCount}
 use Rattle.array.specs.working.PackedRows.{Held}
-use Rattle.array.specs.Plain.{plain, plainCount}
+use Rattle.array.specs.Plain.{fillings, plain, plainCount}
 use Rattle.array.specs.working.Steps.{StepDone}
 use Rattle.array.specs.working.Runs.{Started}
+use Rattle.array.proofs.Fillings.{fillings-drop, next-fillings}
 
 -- the rest of a slice from a place on, as a lent part gives it
 abbrev restFrom : ℕ → List ℕ → List ℕ
@@ -30,17 +31,18 @@ tail-room k n w h = rw (tail k w, length-drop) (omega arith)
 
 -- an iteration, from its halves
 pub iteration-done : (d : Degree) (w : List ℕ) {n : ℕ} {m rows across down s halfway t rows′ : List ℕ} {k j : ℕ} → n ≡ size d
-    → (k ≤ 8320) × ((r : List ℕ) → Held (size d) m rows → Held (size d) r across → StepDone (size d) (rowHalf d m r w) (rowCount d m r w) s halfway k)
-    → (j ≤ 8320) × ((r : List ℕ) → Held (size d) s halfway → Held (size d) (transpose (size d) (size d) r) down → StepDone (size d) (columnHalf d s r (restFrom n w)) (columnCount d s r (restFrom n w)) t rows′ j)
-    → (k + j ≤ 16640) × ((r : List ℕ) → Started (size d) m r rows across down → StepDone (size d) (plain d 1 m r w) (plainCount d 1 m r w) t rows′ (k + j))
+    → (k ≤ 33024) × ((r : List ℕ) → Held (size d) m rows → Held (size d) r across → StepDone (size d) (rowHalf d m r (fillings w)) (rowCount d m r (fillings w)) s halfway k)
+    → (j ≤ 33024) × ((r : List ℕ) → Held (size d) s halfway → Held (size d) (transpose (size d) (size d) r) down → StepDone (size d) (columnHalf d s r (fillings (restFrom (2 * n) w))) (columnCount d s r (fillings (restFrom (2 * n) w))) t rows′ j)
+    → (k + j ≤ 66048) × ((r : List ℕ) → Started (size d) m r rows across down → StepDone (size d) (plain d 1 m r (fillings w)) (plainCount d 1 m r (fillings w)) t rows′ (k + j))
 unfolding plain plainCount
 iteration-done d w {n} {m} {rows} {across} {down} {s} {halfway} {t} {rows′} {k} {j} z p q = (
   omega (arith, p .0, q .0),
   λ r g.
       let a = p .1 r (g .held) (g .across) in
       let b = q .1 r (rw (a .cells) (a .held)) (g .down) in
-      let e = rw (tail n w, z, a .cells) at (b .cells) in
-      let f = rw (tail n w, z, a .cells) at (b .sum) in
+      let rest : fillings (restFrom (2 * n) w) ≡ drop (size d) (fillings w) = ap fillings (tail (2 * n) w) ∙ sym (fillings-drop n w) ∙ ap (λ (x : ℕ). drop x (fillings w)) z in
+      let e = rw (rest, a .cells) at (b .cells) in
+      let f = rw (rest, a .cells) at (b .sum) in
       record {
         cells = e;
         held = rw (← e, b .cells) (b .held);
@@ -51,49 +53,47 @@ iteration-done d w {n} {m} {rows} {across} {down} {s} {halfway} {t} {rows′} {k
 -- what is left of the plain decoding of m₀, from m on, ends with what all of it ends with
 pub record RunLeft (d : Degree) (l : ℕ) (m₀ r w m rows : List ℕ) (count k at : ℕ) : Type 0 where
   pub held : Held (size d) m rows
-  pub cells : plain d (l - k) m r (drop at w) ≡ plain d l m₀ r w
-  pub sum : count + plainCount d (l - k) m r (drop at w) ≡ plainCount d l m₀ r w
+  pub cells : plain d (l - k) m r (fillings (drop at w)) ≡ plain d l m₀ r (fillings w)
+  pub sum : count + plainCount d (l - k) m r (fillings (drop at w)) ≡ plainCount d l m₀ r (fillings w)
 
 -- k of l iterations of m₀ are done. The count is small whatever the words hold.
 pub record RunAt (d : Degree) (l : ℕ) (m₀ rows₀ across down w m rows : List ℕ) (count k at : ℕ) : Type 0 where
   pub low : k ≤ l
-  pub place : at ≡ k * (size d + size d)
+  pub place : at ≡ k * (4 * size d)
   pub long : length m ≡ length m₀
-  pub small : count ≤ 16640 * k
+  pub small : count ≤ 66048 * k
   pub done : (r : List ℕ) → Started (size d) m₀ r rows₀ across down → RunLeft d l m₀ r w m rows count k at
 
 pub run-start : (d : Degree) (l : ℕ) (m rows across down w : List ℕ) → RunAt d l m rows across down w m rows 0 0 0
 run-start d l m rows across down w = record {
   low = omega arith;
-  place = sym (zero-mul (size d + size d));
+  place = sym (zero-mul (4 * size d));
   long = refl;
   small = omega arith;
   done = λ r s. record { held = s .held; cells = rw sub-zero; sum = rw (sub-zero, zero-add) };
 }
 
--- the filling words of one iteration, l times
-filling-length : (l n : ℕ) → 2 * l * n ≡ l * (n + n)
-filling-length l n =
-    let e : 2 * n ≡ n + n = omega arith in
-    ap (λ (x : ℕ). x * n) (mul-comm 2 l) ∙ mul-assoc l 2 n ∙ ap (λ (x : ℕ). l * x) e
+-- the numbers of one iteration, l times
+filling-length : (l n : ℕ) → 4 * l * n ≡ l * (4 * n)
+filling-length l n = ap (λ (x : ℕ). x * n) (mul-comm 4 l) ∙ mul-assoc l 4 n
 
 module _ {d : Degree} {l : ℕ} {m₀ rows₀ across down w m rows : List ℕ} {count k at n : ℕ} (s : RunAt d l m₀ rows₀ across down w m rows count k at) (z : n ≡ size d) where
-  -- the filling words of the iteration at hand are there, and few
-  pub run-room : length w ≡ 2 * l * size d → k < l → l ≤ 20 → (at + (size d + size d) ≤ length w) × (at + (n + n) ≤ length w) × (at + (n + n) ≤ 2560)
+  -- the numbers of the iteration at hand are there, and few
+  pub run-room : length w ≡ 4 * l * size d → k < l → l ≤ 20 → (at + 4 * size d ≤ length w) × (at + 4 * n ≤ length w) × (at + 4 * n ≤ 10240)
   run-room e h q =
-      let n′ : ℕ = size d + size d in
+      let n′ : ℕ = 4 * size d in
       let f : length w ≡ l * n′ = e ∙ filling-length l (size d) in
-      let g : l * n′ ≤ 20 * 128 = mul-le-mul {n₁ = l} {m₁ = n′} {n₂ = 20} {m₂ = 128} q (omega (arith, size-room d)) in
+      let g : l * n′ ≤ 20 * 512 = mul-le-mul {n₁ = l} {m₁ = n′} {n₂ = 20} {m₂ = 512} q (omega (arith, size-room d)) in
       let i : at + n′ ≤ l * n′ = omega (arith, s .place, suc-mul k n′, mul-le-mul-right {m = suc k} {n = l} n′ h) in
       (omega arith, omega arith, omega arith)
 
   pub run-next : {m′ rows′ : List ℕ} {j : ℕ} → k < l → length m′ ≡ length m
-      → (j ≤ 16640) × ((r : List ℕ) → Started (size d) m r rows across down → StepDone (size d) (plain d 1 m r (restFrom at w)) (plainCount d 1 m r (restFrom at w)) m′ rows′ j)
-      → RunAt d l m₀ rows₀ across down w m′ rows′ (count + j) (k + 1) (at + (n + n))
+      → (j ≤ 66048) × ((r : List ℕ) → Started (size d) m r rows across down → StepDone (size d) (plain d 1 m r (fillings (restFrom at w))) (plainCount d 1 m r (fillings (restFrom at w))) m′ rows′ j)
+      → RunAt d l m₀ rows₀ across down w m′ rows′ (count + j) (k + 1) (at + 4 * n)
   unfolding plain plainCount
   run-next {m′} {rows′} {j} h same p = record {
     low = omega arith;
-    place = rw (z, add-one, suc-mul, ← s .place);
+    place = omega (arith, z, s .place, suc-mul k (4 * size d));
     long = same ∙ s .long;
     small = omega (arith, s .small, p .0);
     done = λ r g.
@@ -102,18 +102,19 @@ module _ {d : Degree} {l : ℕ} {m₀ rows₀ across down w m rows : List ℕ} {
         let e = rw (tail at w) at (q .cells) in
         let f = rw (tail at w, add-zero) at (q .sum) in
         let left : l - k ≡ suc (l - (k + 1)) = omega arith in
+        let next : fillings (drop (at + 4 * size d) w) ≡ drop (size d + size d) (fillings (drop at w)) = next-fillings (size d) at w in
         record {
           held = rw (q .cells) (q .held);
-          cells = rw (z, e, ← drop-drop (size d + size d) at w) (sym (ap (λ (x : ℕ). plain d x m r (drop at w)) left) ∙ t .cells);
-          sum = rw (z, e, f, ← drop-drop (size d + size d) at w, add-assoc) (sym (ap (λ (x : ℕ). count + plainCount d x m r (drop at w)) left) ∙ t .sum);
+          cells = rw (z, e, next) (sym (ap (λ (x : ℕ). plain d x m r (fillings (drop at w))) left) ∙ t .cells);
+          sum = rw (z, e, f, next, add-assoc) (sym (ap (λ (x : ℕ). count + plainCount d x m r (fillings (drop at w))) left) ∙ t .sum);
         };
   }
 
-  pub run-end : l ≤ k → (r : List ℕ) → Started (size d) m₀ r rows₀ across down → StepDone (size d) (plain d l m₀ r w) (plainCount d l m₀ r w) m rows count
+  pub run-end : l ≤ k → (r : List ℕ) → Started (size d) m₀ r rows₀ across down → StepDone (size d) (plain d l m₀ r (fillings w)) (plainCount d l m₀ r (fillings w)) m rows count
   unfolding plain plainCount
   run-end h r g =
       let t = s .done r g in
       let y : l - k ≡ 0 = omega arith in
-      let e : m ≡ plain d l m₀ r w = rw y at (t .cells) in
-      let f : count + plainCount d 0 m r (drop at w) ≡ plainCount d l m₀ r w = rw y at (t .sum) in
+      let e : m ≡ plain d l m₀ r (fillings w) = rw y at (t .cells) in
+      let f : count + plainCount d 0 m r (fillings (drop at w)) ≡ plainCount d l m₀ r (fillings w) = rw y at (t .sum) in
       record { cells = e; held = rw (← e) (t .held); sum = sym (add-zero count) ∙ f }

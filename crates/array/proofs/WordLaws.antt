@@ -13,6 +13,7 @@ use lib.Pow.{pow-mono}
 use lib.Seq.{take-nil}
 use Rattle.laws.specs.Bits.{bit}
 use Rattle.laws.specs.working.Bits.{bitAt}
+use Rattle.words.specs.working.Word.{width}
 use Rattle.line.specs.working.Packed.{packBy}
 use Rattle.line.proofs.PackBits.{packBy-lt, packBy-bit}
 use Rattle.array.specs.Arrays.{line, transpose}
@@ -22,7 +23,7 @@ use Rattle.laws.proofs.Bits.{bits-ext}
 
 module _ (n : ℕ) (m : List ℕ) where
   -- a line has at most n cells
-  length-line-le : (i : ℕ) → length (line n m i) ≤ n
+  pub length-line-le : (i : ℕ) → length (line n m i) ≤ n
   length-line-le i = rw length-take (omega arith)
 
   -- past the last cell of a line there is none
@@ -30,7 +31,7 @@ module _ (n : ℕ) (m : List ℕ) where
   line-over i j h = List·getD-eq-default (line n m i) 0 {n = j} (omega (arith, length-line-le i))
 
   -- nor in a line past the last
-  line-past : length m ≡ n * n → (i j : ℕ) → n ≤ i → getD (line n m i) j 0 ≡ 0
+  pub line-past : length m ≡ n * n → (i j : ℕ) → n ≤ i → getD (line n m i) j 0 ≡ 0
   line-past l i j h =
       ap (λ (xs : List ℕ). getD xs j 0)
       (ap (take n) (drop-of-length-le m {i = i * n} (omega (arith, mul-le-mul-right {m = n} {n = i} n h))) ∙ take-nil n)
@@ -45,11 +46,11 @@ column-cell n m l i j =
     (λ h. line-over n m j i (omega arith) ∙ sym (line-past n (transpose n n m) (length-transpose n n m) i j (omega arith)))
 
 -- transposed words pack the columns
-pub words-turned : (p : ℕ → Bool) (n : ℕ) (m : List ℕ) (before after : ℕ → ℕ) → p 0 ≡ false → n ≤ 64 → length m ≡ n * n → RowWords p n m before
-    → ((i : ℕ) → i < 64 → after i < 2 ^ 64) → ((i j : ℕ) → i < 64 → j < 64 → bitAt (after i) j ≡ bitAt (before j) i)
+pub words-turned : (p : ℕ → Bool) (n : ℕ) (m : List ℕ) (before after : ℕ → ℕ) → p 0 ≡ false → n ≤ width → length m ≡ n * n → RowWords p n m before
+    → ((i : ℕ) → i < width → after i < 2 ^ width) → ((i j : ℕ) → i < width → j < width → bitAt (after i) j ≡ bitAt (before j) i)
     → RowWords p n (transpose n n m) after
 words-turned p n m before after z few l w small turned i h =
-    bits-ext 64 (after i) (packBy p column) (small i h) (lt-of-lt-of-le (packBy-lt p column) (pow-mono fits))
+    bits-ext width (after i) (packBy p column) (small i h) (lt-of-lt-of-le (packBy-lt p column) (pow-mono fits))
     (λ j k.
     turned i j h k ∙ ap (λ (x : ℕ). bitAt x i) (w j k) ∙ packBy-bit p z (line n m j) i
     ∙ ap (λ (x : ℕ). bit (p x)) (column-cell n m l i j) ∙ sym (packBy-bit p z column j))
@@ -57,5 +58,5 @@ words-turned p n m before after z few l w small turned i h =
     column : List ℕ
     column = line n (transpose n n m) i
 
-    fits : length column ≤ 64
+    fits : length column ≤ width
     fits = omega (arith, length-line-le n (transpose n n m) i)

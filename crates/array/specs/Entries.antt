@@ -14,7 +14,7 @@ use Rattle.array.specs.declared.entry.DecodeAnswer.{DecodeAnswer}
 use Rattle.array.specs.declared.entry.DecodeAnswer.the-variants as answer
 use Rattle.array.specs.Arrays.{line}
 use Rattle.array.specs.Encoding.{encodeArray, extracted, OneArray, SentArray}
-use Rattle.array.specs.Plain.{plain, plainCount, closed as closedIn, RowCondition}
+use Rattle.array.specs.Plain.{fillings, plain, plainCount, closed as closedIn, RowCondition}
 use Rattle.array.specs.Refusals.{codingTests, rowTests, decodeTests}
 
 -- ---- encode, extract and the look-up of a row answer with the refusal number itself
@@ -42,16 +42,16 @@ abbrev pub decodeNumbers : DecodeAnswer → ℕ × ℕ × ℕ × Bool
 decodeNumbers (answer.Refused why) = (number why, 0, 0, false)
 decodeNumbers (answer.Decoded t) = (0, t .count, t .erasures, t .closed)
 
--- ---- decode: the plain decoding of the received array r by l iterations with filling words w. "A refused call makes no step of
--- it."
+-- ---- decode: the plain decoding of the received array r by l iterations with the filling words that w lends. "A refused call makes
+-- no step of it."
 
 pub record DecodeDone (degree l : ℕ) (r w before : List ℕ) (more : List Bool) (after : List ℕ) (a : DecodeAnswer) : Type 0 where
   pub refusal : decodeNumbers a .0 ≡ refusal (decodeTests degree l r w before more)
-  pub count : decodeNumbers a .1 ≡ given degree (decodeTests degree l r w before more) (λ d. plainCount d l r r w) 0
+  pub count : decodeNumbers a .1 ≡ given degree (decodeTests degree l r w before more) (λ d. plainCount d l r r (fillings w)) 0
   -- "at most n + 2 a line", of 2 l n lines
   pub most : decodeNumbers a .1 ≤ 2 * l * 2 ^ degree * (2 ^ degree + 2)
-  pub erasures : decodeNumbers a .2 ≡ given degree (decodeTests degree l r w before more) (λ d. erasuresIn (plain d l r r w)) 0
-  pub closed : decodeNumbers a .3 ≡ given degree (decodeTests degree l r w before more) (λ d. closedIn d (plain d l r r w)) false
-  pub cells : after ≡ given degree (decodeTests degree l r w before more) (λ d. plain d l r r w) before
+  pub erasures : decodeNumbers a .2 ≡ given degree (decodeTests degree l r w before more) (λ d. erasuresIn (plain d l r r (fillings w))) 0
+  pub closed : decodeNumbers a .3 ≡ given degree (decodeTests degree l r w before more) (λ d. closedIn d (plain d l r r (fillings w))) false
+  pub cells : after ≡ given degree (decodeTests degree l r w before more) (λ d. plain d l r r (fillings w)) before
   -- demand 3, last sentence: for every sent array s near which each received row is, the cells left are those of s, and closed
   pub sent : (d : Degree) (s : List ℕ) → decodeNumbers a .0 ≡ 0 → named degree ≡ Known d → SentArray d s → RowCondition d r s → (after ≡ s) × (decodeNumbers a .3 ≡ true)

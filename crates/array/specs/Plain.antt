@@ -1,17 +1,23 @@
 -- The plain decoding. Document 01, "The array": what demand 3 compares with. It is fed the received array r, the number of
 -- iterations l and the filling words w. Its state is an array m, at first r.
 use mathlib.Core.Bool.{Bool, _&&_}
-use mathlib.Core.List.{List}
+use mathlib.Core.List.{List, [], _∷_}
 use Prim.Native.Nat.{ℕ, zero, suc, _+_, _*_, _<_}
 use lib.Dec.{eqb}
 use lib.ListN.{drop}
 use Rattle.laws.specs.Tests.{every}
 use Rattle.degree.specs.declared.Degree.{Degree}
 use Rattle.degree.specs.Degree.{size}
-use Rattle.line.specs.Cells.{erasures, distance, designedDistance}
+use Rattle.line.specs.Cells.{fillingWord, erasures, distance, designedDistance}
 use Rattle.line.specs.Codeword.{isCodeword}
 use Rattle.array.specs.Arrays.{line, column}
 use Rattle.array.specs.Halves.{rowHalf, columnHalf, rowCount, columnCount}
+
+-- the filling words, lent as two numbers each: document 02, W-212, "low word first"
+unfoldable pub fillings : List ℕ → List ℕ
+fillings [] = []
+fillings (low ∷ []) = []
+fillings (low ∷ high ∷ w) = fillingWord low high ∷ fillings w
 
 module _ (d : Degree) where
   -- l iterations, each a row half and then a column half, the filling words in order of halves and lines

@@ -25,11 +25,12 @@ rowTests degree cells index more =
     ∷ (3, some (misfit (length cells) (n * n) ∷ leb n index ∷ more))
     ∷ (4, not (atMost 2 cells)) ∷ []
 
--- decode, l iterations: n by n cells received, 2 × l × n filling words, and n by n cells to write, whose old values are not tested
+-- decode, l iterations: n by n cells received, 2 × l × n filling words of two numbers each, and n by n cells to write, whose old values
+-- are not tested
 unfoldable pub decodeTests : (degree l : ℕ) (received filling cells : List ℕ) (more : List Bool) → List (ℕ × Bool)
 decodeTests degree l received filling cells more =
     let n = 2 ^ degree in
     (1, unnamed degree)
     ∷ (2, eqb l 0 || ltb 20 l)
-    ∷ (3, some (misfit (length received) (n * n) ∷ misfit (length filling) (2 * l * n) ∷ misfit (length cells) (n * n) ∷ more))
+    ∷ (3, some (misfit (length received) (n * n) ∷ misfit (length filling) (4 * l * n) ∷ misfit (length cells) (n * n) ∷ more))
     ∷ (4, not (atMost 2 received)) ∷ []

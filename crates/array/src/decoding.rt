@@ -12,6 +12,7 @@ ghost use Prim.Native.Nat.{_*_, _≤_};
 ghost use lib.ListN.{length};
 ghost use Rattle.degree.specs.Degree.{size};
 ghost use Rattle.line.specs.working.Tables.{TablesOf};
+ghost use Rattle.array.specs.Plain.{fillings};
 ghost use Rattle.array.specs.working.Steps.{IsArray};
 ghost use Rattle.array.specs.working.Runs.{DecodingDone};
 
@@ -24,14 +25,14 @@ pub fn decode_taken(
     cells: &mut [u8],
     tables: &LineTables,
 ) -> Report
-    requires { ⌜ IsArray d (now received) × (length (now cells) ≡ size d * size d) × (length (now filling) ≡ 2 * iterations * size d) × (iterations ≤ 20) × TablesOf d (now tables) ⌝ }
-    ensures { λ r. ⌜ DecodingDone d iterations (now (received .entry)) (now (filling .entry)) (now (cells .exit)) r ⌝ }
+    requires { ⌜ IsArray d (now received) × (length (now cells) ≡ size d * size d) × (length (now filling) ≡ 4 * iterations * size d) × (iterations ≤ 20) × TablesOf d (now tables) ⌝ }
+    ensures { λ r. ⌜ DecodingDone d iterations (now (received .entry)) (fillings (now (filling .entry))) (now (cells .exit)) r ⌝ }
 {
     copy_cells(received, cells);
-    let mut row_channel = [0u64; 128];
+    let mut row_channel = [0u64; 512];
     pack_rows(d, received, &mut row_channel);
     let mut column_channel = row_channel;
-    transpose_rows(&mut column_channel);
+    transpose_rows(d, &mut column_channel);
     let mut rows = row_channel;
     let count = run(
         d,

@@ -8,9 +8,10 @@ use line::encoding::unit_table;
 use line::packed::Line;
 use line::refusals::Call;
 use line::refusals::number_of;
-use line::word::to_number;
+use words::grid::put_word;
 use words::pairs::spread_pair;
 use words::sums::chosen_sum;
+use words::word::zero_word;
 ghost use mathlib.Core.Path.{_≡_};
 ghost use Prim.Native.Nat.{_*_, _%_, _≤_};
 ghost use lib.ListN.{length};
@@ -25,9 +26,9 @@ ghost use Rattle.array.specs.Encoding.{encodeArray};
 ghost use Rattle.array.specs.working.EncodedRows.{EncodedRows};
 ghost use Rattle.array.specs.Entries.{Encoded};
 
-// The words of the message rows.
+// The words of the message rows, in a grid.
 fn encode_rows(d: Degree, units: &UnitTable, message: &[u8], words: &mut [u64])
-    requires { ⌜ Units d (now units) × IsWord (messageSize d * messageSize d) (now message) × (length (now words) ≡ 64) ⌝ }
+    requires { ⌜ Units d (now units) × IsWord (messageSize d * messageSize d) (now message) × (length (now words) ≡ 256) ⌝ }
     ensures { λ _. ⌜ EncodedRows d (now (message .entry)) (now (words .exit)) ⌝ }
 {
     let k = Line::message_cells(d);
@@ -36,7 +37,7 @@ fn encode_rows(d: Degree, units: &UnitTable, message: &[u8], words: &mut [u64])
     while a < k {
         let end = at + k;
         let word = encoded_word(d, units, &message[at..end]);
-        words[a] = to_number(word);
+        put_word(words, 0, a, word);
         at = end;
         a += 1;
     }
@@ -44,7 +45,7 @@ fn encode_rows(d: Degree, units: &UnitTable, message: &[u8], words: &mut [u64])
 
 // All rows of the array: row i is the sum of the k words whose unit has bit i. No cell of it is unsure.
 fn write_rows(n: usize, k: usize, units: &UnitTable, words: &[u64], cells: &mut [u8])
-    requires { ⌜ (k ≤ 64) × (length (now words) ≡ 64) × (n ≤ 64) × (n % 8 ≡ 0) × (length (now cells) ≡ n * n) ⌝ }
+    requires { ⌜ (k ≤ 128) × (length (now words) ≡ 256) × (n ≤ 128) × (n % 8 ≡ 0) × (length (now cells) ≡ n * n) ⌝ }
     ensures { λ _. ⌜ now (cells .exit) ≡ lines (λ i. digits n (chosenSum (now (units .entry)) (now (words .entry)) k i)) n ⌝ }
 {
     let mut i = 0;
@@ -52,7 +53,7 @@ fn write_rows(n: usize, k: usize, units: &UnitTable, words: &[u64], cells: &mut 
     while i < n {
         let end = at + n;
         let word = chosen_sum(k, units, words, i as u32);
-        spread_pair(word, 0, &mut cells[at..end]);
+        spread_pair(word, zero_word(), &mut cells[at..end]);
         at = end;
         i += 1;
     }
@@ -64,7 +65,7 @@ fn encode_array(d: Degree, message: &[u8], cells: &mut [u8])
     ensures { λ _. ⌜ now (cells .exit) ≡ encodeArray d (now (message .entry)) ⌝ }
 {
     let units = unit_table(d);
-    let mut words = [0u64; 64];
+    let mut words = [0u64; 256];
     encode_rows(d, &units, message, &mut words);
     let n = size_of(d);
     let k = Line::message_cells(d);

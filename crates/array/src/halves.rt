@@ -10,17 +10,30 @@ use line::messages::messages_of;
 use line::row::update_row;
 use line::sending::send_row;
 use line::tables::LineTables;
-use line::word::of_number;
+use words::word::Word;
+use words::word::of_numbers;
 ghost use mathlib.Core.Path.{_≡_};
 ghost use mathlib.Core.List.{List};
-ghost use Prim.Native.Nat.{ℕ, _*_, _≤_};
-ghost use lib.ListN.{length};
+ghost use Prim.Native.Nat.{ℕ, _+_, _*_, _<_, _≤_};
+ghost use lib.ListN.{length, getD};
 ghost use Rattle.degree.specs.Degree.{size};
 ghost use Rattle.line.specs.working.Tables.{TablesOf};
 ghost use Rattle.array.specs.Arrays.{transpose};
 ghost use Rattle.array.specs.Halves.{rowHalf, columnHalf, rowCount, columnCount};
+ghost use Rattle.array.specs.Plain.{fillings};
+ghost use Rattle.words.specs.working.Word.{value};
 ghost use Rattle.array.specs.working.PackedRows.{Held};
 ghost use Rattle.array.specs.working.Steps.{StepDone};
+
+// ---- filling words
+
+// Filling word i, lent as two numbers.
+fn filling_word(filling: &[u64], i: usize) -> Word
+    requires { ⌜ 2 * i + 1 < length (now filling) ⌝ }
+    ensures { λ r. ⌜ value r ≡ getD (fillings (now (filling .entry))) i 0 ⌝ }
+{
+    of_numbers(filling[2 * i], filling[2 * i + 1])
+}
 
 // ---- rows
 
@@ -33,8 +46,8 @@ pub fn row_half(
     filling: &[u64],
     tables: &LineTables,
 ) -> u64
-    requires { ⌜ (length (now cells) ≡ size d * size d) × (size d ≤ length (now filling)) × TablesOf d (now tables) ⌝ }
-    ensures { λ s. ⌜ (s ≤ 8320) × ((r : List ℕ) → Held (size d) (now (cells .entry)) (now (rows .entry)) → Held (size d) r (now (channel .entry)) → StepDone (size d) (rowHalf d (now (cells .entry)) r (now (filling .entry))) (rowCount d (now (cells .entry)) r (now (filling .entry))) (now (cells .exit)) (now (rows .exit)) s) ⌝ }
+    requires { ⌜ (length (now cells) ≡ size d * size d) × (2 * size d ≤ length (now filling)) × TablesOf d (now tables) ⌝ }
+    ensures { λ s. ⌜ (s ≤ 33024) × ((r : List ℕ) → Held (size d) (now (cells .entry)) (now (rows .entry)) → Held (size d) r (now (channel .entry)) → StepDone (size d) (rowHalf d (now (cells .entry)) r (fillings (now (filling .entry)))) (rowCount d (now (cells .entry)) r (fillings (now (filling .entry)))) (now (cells .exit)) (now (rows .exit)) s) ⌝ }
 {
     let n = size_of(d);
     let mut count: u64 = 0;
@@ -44,7 +57,7 @@ pub fn row_half(
         let end = at + n;
         let y = line_in(rows, i);
         let r = line_in(channel, i);
-        let f = of_number(filling[i]);
+        let f = filling_word(filling, i);
         let s = send_row(d, &mut cells[at..end], y, r, f, tables);
         put_line(rows, i, s.line);
         count += s.count;
@@ -64,8 +77,8 @@ fn send_columns(
     filling: &[u64],
     tables: &LineTables,
 ) -> u64
-    requires { ⌜ (size d ≤ length (now filling)) × TablesOf d (now tables) ⌝ }
-    ensures { λ s. ⌜ (s ≤ 8320) × ((m r : List ℕ) → Held (size d) m (now (columns .entry)) → Held (size d) r (now (channel .entry)) → Held (size d) (rowHalf d m r (now (filling .entry))) (now (columns .exit)) × (s ≡ rowCount d m r (now (filling .entry)))) ⌝ }
+    requires { ⌜ (2 * size d ≤ length (now filling)) × TablesOf d (now tables) ⌝ }
+    ensures { λ s. ⌜ (s ≤ 33024) × ((m r : List ℕ) → Held (size d) m (now (columns .entry)) → Held (size d) r (now (channel .entry)) → Held (size d) (rowHalf d m r (fillings (now (filling .entry)))) (now (columns .exit)) × (s ≡ rowCount d m r (fillings (now (filling .entry))))) ⌝ }
 {
     let n = size_of(d);
     let mut count: u64 = 0;
@@ -73,7 +86,7 @@ fn send_columns(
     while j < n {
         let y = line_in(columns, j);
         let r = line_in(channel, j);
-        let f = of_number(filling[j]);
+        let f = filling_word(filling, j);
         let s = messages_of(d, y, r, f, tables);
         put_line(columns, j, s.line);
         count += s.count;
@@ -109,13 +122,13 @@ pub fn column_half(
     filling: &[u64],
     tables: &LineTables,
 ) -> u64
-    requires { ⌜ (length (now cells) ≡ size d * size d) × (size d ≤ length (now filling)) × TablesOf d (now tables) ⌝ }
-    ensures { λ s. ⌜ (s ≤ 8320) × ((r : List ℕ) → Held (size d) (now (cells .entry)) (now (rows .entry)) → Held (size d) (transpose (size d) (size d) r) (now (channel .entry)) → StepDone (size d) (columnHalf d (now (cells .entry)) r (now (filling .entry))) (columnCount d (now (cells .entry)) r (now (filling .entry))) (now (cells .exit)) (now (rows .exit)) s) ⌝ }
+    requires { ⌜ (length (now cells) ≡ size d * size d) × (2 * size d ≤ length (now filling)) × TablesOf d (now tables) ⌝ }
+    ensures { λ s. ⌜ (s ≤ 33024) × ((r : List ℕ) → Held (size d) (now (cells .entry)) (now (rows .entry)) → Held (size d) (transpose (size d) (size d) r) (now (channel .entry)) → StepDone (size d) (columnHalf d (now (cells .entry)) r (fillings (now (filling .entry)))) (columnCount d (now (cells .entry)) r (fillings (now (filling .entry)))) (now (cells .exit)) (now (rows .exit)) s) ⌝ }
 {
     let old = *rows;
-    transpose_rows(rows);
+    transpose_rows(d, rows);
     let count = send_columns(d, channel, rows, filling, tables);
-    transpose_rows(rows);
+    transpose_rows(d, rows);
     write_rows(d, cells, &old, rows);
     count
 }

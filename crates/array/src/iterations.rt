@@ -1,4 +1,5 @@
-// The iterations of a decoding: each a row half and then a column half, with the filling words in order of halves and lines.
+// The iterations of a decoding: each a row half and then a column half, with the filling words in order of halves and lines,
+// two numbers each.
 use crate::halves::column_half;
 use crate::halves::row_half;
 use crate::packing::PackedRows;
@@ -11,7 +12,7 @@ ghost use Prim.Native.Nat.{ℕ, _+_, _*_, _≤_};
 ghost use lib.ListN.{length};
 ghost use Rattle.degree.specs.Degree.{size};
 ghost use Rattle.line.specs.working.Tables.{TablesOf};
-ghost use Rattle.array.specs.Plain.{plain, plainCount};
+ghost use Rattle.array.specs.Plain.{fillings, plain, plainCount};
 ghost use Rattle.array.specs.working.Steps.{StepDone};
 ghost use Rattle.array.specs.working.Runs.{Started};
 
@@ -24,12 +25,12 @@ fn iterate(
     filling: &[u64],
     tables: &LineTables,
 ) -> u64
-    requires { ⌜ (length (now cells) ≡ size d * size d) × (size d + size d ≤ length (now filling)) × TablesOf d (now tables) ⌝ }
-    ensures { λ s. ⌜ (s ≤ 16640) × ((r : List ℕ) → Started (size d) (now (cells .entry)) r (now (rows .entry)) (now («row_channel» .entry)) (now («column_channel» .entry)) → StepDone (size d) (plain d 1 (now (cells .entry)) r (now (filling .entry))) (plainCount d 1 (now (cells .entry)) r (now (filling .entry))) (now (cells .exit)) (now (rows .exit)) s) ⌝ }
+    requires { ⌜ (length (now cells) ≡ size d * size d) × (4 * size d ≤ length (now filling)) × TablesOf d (now tables) ⌝ }
+    ensures { λ s. ⌜ (s ≤ 66048) × ((r : List ℕ) → Started (size d) (now (cells .entry)) r (now (rows .entry)) (now («row_channel» .entry)) (now («column_channel» .entry)) → StepDone (size d) (plain d 1 (now (cells .entry)) r (fillings (now (filling .entry)))) (plainCount d 1 (now (cells .entry)) r (fillings (now (filling .entry)))) (now (cells .exit)) (now (rows .exit)) s) ⌝ }
 {
     let n = size_of(d);
     let a = row_half(d, cells, row_channel, rows, filling, tables);
-    let b = column_half(d, cells, column_channel, rows, &filling[n..], tables);
+    let b = column_half(d, cells, column_channel, rows, &filling[2 * n..], tables);
     a + b
 }
 
@@ -43,8 +44,8 @@ pub fn run(
     filling: &[u64],
     tables: &LineTables,
 ) -> u64
-    requires { ⌜ (length (now cells) ≡ size d * size d) × (length (now filling) ≡ 2 * iterations * size d) × (iterations ≤ 20) × TablesOf d (now tables) ⌝ }
-    ensures { λ s. ⌜ ((r : List ℕ) → Started (size d) (now (cells .entry)) r (now (rows .entry)) (now («row_channel» .entry)) (now («column_channel» .entry)) → StepDone (size d) (plain d iterations (now (cells .entry)) r (now (filling .entry))) (plainCount d iterations (now (cells .entry)) r (now (filling .entry))) (now (cells .exit)) (now (rows .exit)) s) ⌝ }
+    requires { ⌜ (length (now cells) ≡ size d * size d) × (length (now filling) ≡ 4 * iterations * size d) × (iterations ≤ 20) × TablesOf d (now tables) ⌝ }
+    ensures { λ s. ⌜ ((r : List ℕ) → Started (size d) (now (cells .entry)) r (now (rows .entry)) (now («row_channel» .entry)) (now («column_channel» .entry)) → StepDone (size d) (plain d iterations (now (cells .entry)) r (fillings (now (filling .entry)))) (plainCount d iterations (now (cells .entry)) r (fillings (now (filling .entry)))) (now (cells .exit)) (now (rows .exit)) s) ⌝ }
 {
     let n = size_of(d);
     let mut count: u64 = 0;
@@ -61,7 +62,7 @@ pub fn run(
             tables,
         );
         count += c;
-        at += n + n;
+        at += 4 * n;
         k += 1;
     }
     count

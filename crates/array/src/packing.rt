@@ -5,58 +5,49 @@ use line::packed::Line;
 use line::packed::erased_of;
 use line::packed::ones_of;
 use line::packed::pack;
-use line::word::of_number;
-use line::word::to_number;
-use words::transpose::transpose_words;
-use words::zeros::all_zero;
+use words::grid::put_word;
+use words::grid::transpose_grid;
+use words::grid::word_in;
 ghost use mathlib.Core.Path.{_≡_};
 ghost use Prim.Native.Nat.{_<_};
-ghost use lib.ListN.{length, replicate};
+ghost use lib.ListN.{replicate};
 ghost use Rattle.degree.specs.Degree.{size};
-ghost use Rattle.array.specs.working.PackedRows.{Held, LineIn, LinePut, BlocksTurned, RowsTurned};
+ghost use Rattle.words.specs.working.Word.{width};
+ghost use Rattle.array.specs.working.PackedRows.{Held, LineIn, LinePut, RowsTurned};
 ghost use Rattle.array.specs.working.Steps.{IsArray};
 
-// Words 0 to 63 are the ones of the rows, words 64 to 127 their erasures.
-pub type PackedRows = [u64; 128];
+// Two grids of words: the ones of the rows, and from entry 256 on their erasures.
+pub type PackedRows = [u64; 512];
 
 // Line i of packed rows.
 pub fn line_in(rows: &PackedRows, i: usize) -> Line
-    requires { ⌜ i < 64 ⌝ }
+    requires { ⌜ i < width ⌝ }
     ensures { λ l. ⌜ LineIn (now (rows .entry)) i l ⌝ }
 {
-    Line::new(of_number(rows[i]), of_number(rows[64 + i]))
+    Line::new(word_in(rows, 0, i), word_in(rows, 256, i))
 }
 
 // Line i of packed rows made another.
 pub fn put_line(rows: &mut PackedRows, i: usize, l: Line)
-    requires { ⌜ i < 64 ⌝ }
+    requires { ⌜ i < width ⌝ }
     ensures { λ _. ⌜ LinePut (now (rows .entry)) i l (now (rows .exit)) ⌝ }
 {
-    rows[i] = to_number(ones_of(l));
-    rows[64 + i] = to_number(erased_of(l));
-}
-
-// The words of the ones, and those of the erasures: where none is set, as after some halves no cell is unsure, nothing moves.
-fn transpose_blocks(rows: &mut [u64])
-    requires { ⌜ length (now rows) ≡ 128 ⌝ }
-    ensures { λ _. ⌜ BlocksTurned (now (rows .entry)) (now (rows .exit)) ⌝ }
-{
-    transpose_words(&mut rows[0..64]);
-    if !all_zero(&rows[64..128]) {
-        transpose_words(&mut rows[64..128])
-    }
+    put_word(rows, 0, i, ones_of(l));
+    put_word(rows, 256, i, erased_of(l));
 }
 
 // Packed rows become the packed columns.
-pub fn transpose_rows(rows: &mut PackedRows)
-    ensures { λ _. ⌜ RowsTurned (now (rows .entry)) (now (rows .exit)) ⌝ }
+pub fn transpose_rows(d: Degree, rows: &mut PackedRows)
+    ensures { λ _. ⌜ RowsTurned (size d) (now (rows .entry)) (now (rows .exit)) ⌝ }
 {
-    transpose_blocks(rows)
+    let narrow = size_of(d) <= 64;
+    transpose_grid(rows, 0, narrow);
+    transpose_grid(rows, 256, narrow);
 }
 
 // The rows of an array packed, into words that are 0.
 pub fn pack_rows(d: Degree, cells: &[u8], rows: &mut PackedRows)
-    requires { ⌜ IsArray d (now cells) × (now rows ≡ replicate 128 0) ⌝ }
+    requires { ⌜ IsArray d (now cells) × (now rows ≡ replicate 512 0) ⌝ }
     ensures { λ _. ⌜ Held (size d) (now (cells .entry)) (now (rows .exit)) ⌝ }
 {
     let n = size_of(d);

@@ -50,8 +50,9 @@ fn known_test(d: Degree, iterations: u64, received: &[u8], filling: &[u64], cell
         Call::Refused(Refusal::BadIterations)
     } else {
         let n = size_of(d);
-        let words = 2 * (iterations as usize) * n;
-        let wrong = (received.len() != n * n) | ((filling.len() != words) | (cells.len() != n * n));
+        let numbers = 4 * (iterations as usize) * n;
+        let wrong = (received.len() != n * n)
+            | ((filling.len() != numbers) | (cells.len() != n * n));
         lent_test(d, wrong, 2, received)
     }
 }

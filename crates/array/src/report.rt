@@ -66,7 +66,7 @@ pub fn report_of(d: Degree, total: u64, rows: &PackedRows, tables: &LineTables) 
     let left = count_erased(d, rows);
     if left == 0 {
         let mut columns = *rows;
-        transpose_rows(&mut columns);
+        transpose_rows(d, &mut columns);
         let all = all_codewords(d, rows, &columns, tables);
         Report {
             count: total,

@@ -17,7 +17,7 @@ ghost use Rattle.second.specs.working.Loops.{Below};
 
 // The array of a message by chance.
 pub fn make_sent(n: usize, state: &mut u64, cells: &mut Cells)
-    requires { ⌜ (13 < n) × (n ≤ 64) ⌝ }
+    requires { ⌜ (15 < n) × (n ≤ 128) ⌝ }
     ensures { λ _. ⌜ (Below 2 (now (cells .entry)) → Below 2 (now (cells .exit))) ⌝ }
 {
     let area = area_of(n);
@@ -47,7 +47,7 @@ const WRONG: [usize; 17] = [0, 0, 0, 0, 0, 0, 0, 0, 1, 4, 1, 0, 0, 1, 2, 3, 0];
 const ERASED: [usize; 17] = [0, 0, 0, 0, 0, 0, 0, 0, 0, 0, 2, 8, 64, 5, 3, 0, 4];
 
 fn damaged_of_kind(kind: usize, i: usize, n: usize, state: &mut u64, line: Line) -> Line
-    requires { ⌜ (0 < n) × (n ≤ 64) ⌝ }
+    requires { ⌜ (0 < n) × (n ≤ 128) ⌝ }
     ensures { λ r. ⌜ (Below 3 line → Below 3 r) ⌝ }
 {
     if kind <= COLUMNS_AT_THE_LIMIT {
@@ -70,7 +70,7 @@ fn first_line(n: usize, columns: bool) -> usize
 }
 
 fn damage_lines(n: usize, kind: usize, state: &mut u64, cells: &mut Cells)
-    requires { ⌜ (0 < n) × (n ≤ 64) ⌝ }
+    requires { ⌜ (0 < n) × (n ≤ 128) ⌝ }
     ensures { λ _. ⌜ (Below 3 (now (cells .entry)) → Below 3 (now (cells .exit))) ⌝ }
 {
     let first = first_line(n, kind == COLUMNS_AT_THE_LIMIT);
@@ -82,7 +82,7 @@ fn damage_lines(n: usize, kind: usize, state: &mut u64, cells: &mut Cells)
 
 // The rows, or the columns, in reverse order: they are codewords still, and the lines of the other way mostly are not.
 fn reverse(n: usize, kind: usize, cells: &mut Cells)
-    requires { ⌜ (0 < n) × (n ≤ 64) ⌝ }
+    requires { ⌜ (0 < n) × (n ≤ 128) ⌝ }
     ensures { λ _. ⌜ (Below 3 (now (cells .entry)) → Below 3 (now (cells .exit))) ⌝ }
 {
     let first = first_line(n, kind == COLUMNS_REVERSED);
@@ -105,7 +105,7 @@ fn damaged_cell(cell: u8, drawn: usize, wrong: usize, erased: usize) -> u8
 }
 
 fn scatter(n: usize, wrong: usize, erased: usize, state: &mut u64, cells: &mut Cells)
-    requires { ⌜ 0 < n ⌝ }
+    requires { ⌜ (0 < n) × (n ≤ 128) ⌝ }
     ensures { λ _. ⌜ (Below 3 (now (cells .entry)) → Below 3 (now (cells .exit))) ⌝ }
 {
     let area = area_of(n);
@@ -116,7 +116,7 @@ fn scatter(n: usize, wrong: usize, erased: usize, state: &mut u64, cells: &mut C
 }
 
 pub fn damage_array(n: usize, kind: usize, state: &mut u64, cells: &mut Cells)
-    requires { ⌜ (0 < n) × (n ≤ 64) × (kind < 17) ⌝ }
+    requires { ⌜ (0 < n) × (n ≤ 128) × (kind < 17) ⌝ }
     ensures { λ _. ⌜ (Below 3 (now (cells .entry)) → Below 3 (now (cells .exit))) ⌝ }
 {
     if kind <= ALL_BY_CHANCE {
@@ -138,10 +138,10 @@ const GOOD_ROWS: usize = 1; // the columns are off; else both are good, with uns
 
 // A codeword by chance: a row of a sent array.
 fn any_codeword(n: usize, state: &mut u64) -> Line
-    requires { ⌜ (13 < n) × (n ≤ 64) ⌝ }
+    requires { ⌜ (15 < n) × (n ≤ 128) ⌝ }
     ensures { λ r. ⌜ Below 2 r ⌝ }
 {
-    let mut room = [0u8; 4096];
+    let mut room = [0u8; 16384];
     make_sent(n, state, &mut room);
     take_line(n, 0, &room)
 }
@@ -160,10 +160,10 @@ fn crossed_cell(down: u8, across: u8, mark: u8) -> u8
 
 // The line across where the cell of the line down is 1; else zeros, of which the marked cells are unsure.
 fn crossed_line(n: usize, down: u8, across: Line, marks: Line) -> Line
-    requires { ⌜ n ≤ 64 ⌝ }
+    requires { ⌜ n ≤ 128 ⌝ }
     ensures { λ r. ⌜ (Below 3 across → Below 3 r) ⌝ }
 {
-    let mut line = [0u8; 64];
+    let mut line = [0u8; 128];
     for j in 0..n {
         line[j] = crossed_cell(down, across[j], marks[j]);
     }
@@ -172,7 +172,7 @@ fn crossed_line(n: usize, down: u8, across: Line, marks: Line) -> Line
 
 // Every row is the line across or zeros, and so every column is the line down or zeros, but for unsure cells.
 fn cross(n: usize, down: Line, across: Line, marks: Line, cells: &mut Cells)
-    requires { ⌜ n ≤ 64 ⌝ }
+    requires { ⌜ n ≤ 128 ⌝ }
     ensures { λ _. ⌜ (Below 3 across → Below 3 (now (cells .entry)) → Below 3 (now (cells .exit))) ⌝ }
 {
     for i in 0..n {
@@ -180,16 +180,16 @@ fn cross(n: usize, down: Line, across: Line, marks: Line, cells: &mut Cells)
     }
 }
 
-// A line that is off has up to four wrong cells: mostly no codeword is within 3 of it, so that no message changes a cell. Unsure cells stay where
-// there are 6 or more of them in each line that has any.
+// A line that is off has up to four wrong cells: mostly no codeword is within 3 of it, so that no message changes a cell. Unsure cells
+// stay where there are 6 or more of them in each line that has any.
 pub fn make_almost_closed(n: usize, kind: usize, state: &mut u64, cells: &mut Cells)
-    requires { ⌜ (13 < n) × (n ≤ 64) ⌝ }
+    requires { ⌜ (15 < n) × (n ≤ 128) ⌝ }
     ensures { λ _. ⌜ (Below 3 (now (cells .entry)) → Below 3 (now (cells .exit))) ⌝ }
 {
     let one = any_codeword(n, state);
     let other = any_codeword(n, state);
     let off = hit_some(FLIPPED, 4, n, state, other);
-    let unmarked = [0u8; 64];
+    let unmarked = [0u8; 128];
     if kind == GOOD_COLUMNS {
         cross(n, one, off, unmarked, cells);
     } else if kind == GOOD_ROWS {

@@ -1,4 +1,6 @@
 // Numbers drawn by chance, the same on every run.
+use second::lines::FillingWord;
+use second::tallies::mix;
 ghost use Prim.Native.Nat.{_<_};
 ghost use mathlib.Core.Path.{_≡_};
 
@@ -20,15 +22,21 @@ pub fn below(state: &mut u64, bound: usize) -> usize
     drawn % bound
 }
 
-// A filling word: zero, all ones, or drawn.
-pub fn filling_word(state: &mut u64, kind: usize) -> u64
-    ensures { λ r. ⌜ (kind ≡ 0 → r ≡ 0) × (kind ≡ 1 → r ≡ 18446744073709551615) ⌝ }
+// A filling word: zeros below cell 64 and ones from there on, the opposite, or by chance. The two numbers differ, so that it shows where
+// the wrong one is read. The last kind takes one draw: the high number is stirred from the low one.
+pub fn filling_word(state: &mut u64, kind: usize) -> FillingWord
+    ensures { λ r. ⌜ (kind ≡ 0 → r .low ≡ 0) × (kind ≡ 0 → r .high ≡ 18446744073709551615) × (kind ≡ 1 → r .low ≡ 18446744073709551615) × (kind ≡ 1 → r .high ≡ 0) ⌝ }
 {
+    let ones = 0xFFFFFFFFFFFFFFFF;
     if kind == 0 {
-        0
+        FillingWord { low: 0, high: ones }
     } else if kind == 1 {
-        0xFFFFFFFFFFFFFFFF
+        FillingWord { low: ones, high: 0 }
     } else {
-        draw(state)
+        let low = draw(state);
+        FillingWord {
+            low: low,
+            high: mix(low, 0),
+        }
     }
 }

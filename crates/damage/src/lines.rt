@@ -15,7 +15,7 @@ pub const ANY_CELL: usize = 2;
 pub const UNSURE: usize = 3;
 
 fn erase_from(n: usize, from: usize, line: &mut Line)
-    requires { ⌜ (n ≤ 64) × (from < n) ⌝ }
+    requires { ⌜ (n ≤ 128) × (from < n) ⌝ }
     ensures { λ _. ⌜ (Below 3 (now (line .entry)) → Below 3 (now (line .exit))) ⌝ }
 {
     let mut i = from;
@@ -46,7 +46,7 @@ fn any(how: usize, drawn: usize) -> u8
 }
 
 fn hit(how: usize, n: usize, i: usize, state: &mut u64, line: &mut Line)
-    requires { ⌜ (n ≤ 64) × (i < n) ⌝ }
+    requires { ⌜ (n ≤ 128) × (i < n) ⌝ }
     ensures { λ _. ⌜ (Below 3 (now (line .entry)) → Below 3 (now (line .exit))) ⌝ }
 {
     if how == UNSURE {
@@ -60,12 +60,12 @@ fn hit(how: usize, n: usize, i: usize, state: &mut u64, line: &mut Line)
 
 // The line with so many cells hit.
 pub fn hit_some(how: usize, many: usize, n: usize, state: &mut u64, line: Line) -> Line
-    requires { ⌜ (0 < n) × (n ≤ 64) ⌝ }
+    requires { ⌜ (0 < n) × (n ≤ 128) ⌝ }
     ensures { λ r. ⌜ (Below 3 line → Below 3 r) ⌝ }
 {
     let mut other = line;
     for _ in 0..many {
-        let i = below(state, 64) % n;
+        let i = below(state, n);
         hit(how, n, i, state, &mut other);
     }
     other
@@ -73,7 +73,7 @@ pub fn hit_some(how: usize, many: usize, n: usize, state: &mut u64, line: Line) 
 
 // So many wrong, and so many unsure.
 pub fn damaged_by(wrong: usize, erased: usize, n: usize, state: &mut u64, sent: Line) -> Line
-    requires { ⌜ (0 < n) × (n ≤ 64) ⌝ }
+    requires { ⌜ (0 < n) × (n ≤ 128) ⌝ }
     ensures { λ r. ⌜ (Below 3 sent → Below 3 r) ⌝ }
 {
     let other = hit_some(FLIPPED, wrong, n, state, sent);

@@ -6,6 +6,7 @@ ghost use Rattle.degree.specs.Degree.{size, order, named};
 pub enum Degree {
     Four,
     Six,
+    Seven,
 }
 
 // The degree that a number names, if it names one.
@@ -21,6 +22,8 @@ pub fn degree_of(number: u64) -> Named
         Named::Known(Degree::Four)
     } else if number == 6 {
         Named::Known(Degree::Six)
+    } else if number == 7 {
+        Named::Known(Degree::Seven)
     } else {
         Named::Unknown
     }
@@ -33,6 +36,7 @@ pub fn size_of(d: Degree) -> usize
     match d {
         Degree::Four => 16,
         Degree::Six => 64,
+        Degree::Seven => 128,
     }
 }
 
@@ -43,5 +47,6 @@ pub fn order_of(d: Degree) -> usize
     match d {
         Degree::Four => 15,
         Degree::Six => 63,
+        Degree::Seven => 127,
     }
 }

@@ -29,12 +29,12 @@ use Rattle.field.proofs.Powers.{power-lt, power-pos}
 
 -- an entry that is no mark
 abbrev fit? : ℕ → Bool
-fit? e = ltb e 12288
+fit? e = ltb e 49152
 
 fit-is : (e : ℕ) → T (fit? e) → positionsOf e ≢ Unfit
-fit-is e t = go (e / 4096) (omega (arith, ltb→lt e 12288 t))
+fit-is e t = go (e / 16384) (omega (arith, ltb→lt e 49152 t))
   where
-    go : (q : ℕ) → q < 3 → cond (eqb q 0) Zero (cond (eqb q 1) (One (e % 64)) (cond (eqb q 2) (Two (e % 64) (e / 64 % 64)) Unfit)) ≢ Unfit
+    go : (q : ℕ) → q < 3 → cond (eqb q 0) Zero (cond (eqb q 1) (One (e % 128)) (cond (eqb q 2) (Two (e % 128) (e / 128 % 128)) Unfit)) ≢ Unfit
     go zero h = zero≢unfit
     go (suc zero) h = one≢unfit
     go (suc (suc zero)) h = two≢unfit
@@ -64,7 +64,7 @@ module _ (d : Degree) (ps ks : List ℕ) where
 
   -- an entry of s1 that is no mark fits
   abbrev entry? : ℕ → List ℕ → ℕ → Bool
-  entry? s1 t s3 = ltb (getD t s3 0) 16384 && fits? s1 s3 (positionsOf (getD t s3 0))
+  entry? s1 t s3 = fits? s1 s3 (positionsOf (getD t s3 0))
 
   -- so do all n of them; and where positions fit there is no mark
   abbrev row? : ℕ → List ℕ → Bool
@@ -149,7 +149,7 @@ module _ (d : Degree) (ps ks : List ℕ) where
     -- the rule at an entry: it stands for the positions that fit
     pub places-rule : (t : List ℕ) → T (places? t) → Places d 0 t
     unfolding places?
-    places-rule t p s1 s3 h1 h3 = rw (zero-add (size d * s1 + s3)) (ltb→lt entry 16384 (and-left (ltb entry 16384) _ tested), go (positionsOf entry) refl (and-right (ltb entry 16384) _ tested))
+    places-rule t p s1 s3 h1 h3 = rw (zero-add (size d * s1 + s3)) (go (positionsOf entry) refl tested)
       where
         row : List ℕ
         row = drop (size d * s1) t
@@ -166,8 +166,8 @@ module _ (d : Degree) (ps ks : List ℕ) where
         meeting : ℕ → Bool
         meeting x = met? s1 row (suc x)
 
-        tested : T (ltb entry 16384 && fits? s1 s3 (positionsOf entry))
-        tested = subst (λ (e : ℕ). T (ltb e 16384 && fits? s1 s3 (positionsOf e))) (getD-drop (size d * s1) t s3 0) (every-at fitting (size d) (and-left (every fitting (size d)) (every meeting (order d)) test) {k = s3} h3)
+        tested : T (fits? s1 s3 (positionsOf entry))
+        tested = subst (λ (e : ℕ). T (fits? s1 s3 (positionsOf e))) (getD-drop (size d * s1) t s3 0) (every-at fitting (size d) (and-left (every fitting (size d)) (every meeting (order d)) test) {k = s3} h3)
 
         met : (x : ℕ) → x ≢ 0 → x < size d → bitXor (K x) (K (bitXor s1 x)) ≡ s3 → T (fit? entry)
         met zero n h e = absurd (n refl)
@@ -202,19 +202,19 @@ lists-six = tt
 
 -- ---- positions as an entry
 
-pub one-entry : (i : ℕ) → i < 64 → (4096 + i < 16384) × (positionsOf (4096 + i) ≡ One i)
+pub one-entry : (i : ℕ) → i < 128 → positionsOf (16384 + i) ≡ One i
 one-entry i h =
-    let number : (4096 + i) / 4096 ≡ 1 = omega arith in
-    let first : (4096 + i) % 64 ≡ i = omega arith in
-    (omega arith, rw (number, first))
+    let number : (16384 + i) / 16384 ≡ 1 = omega arith in
+    let first : (16384 + i) % 128 ≡ i = omega arith in
+    rw (number, first)
 
-pub two-entry : (i j : ℕ) → i < 64 → j < 64 → (8192 + i + 64 * j < 16384) × (positionsOf (8192 + i + 64 * j) ≡ Two i j)
+pub two-entry : (i j : ℕ) → i < 128 → j < 128 → positionsOf (32768 + i + 128 * j) ≡ Two i j
 two-entry i j h k =
-    let number : (8192 + i + 64 * j) / 4096 ≡ 2 = omega arith in
-    let first : (8192 + i + 64 * j) % 64 ≡ i = omega arith in
-    let both : (8192 + i + 64 * j) / 64 ≡ 128 + j = omega arith in
-    let second : (128 + j) % 64 ≡ j = omega arith in
-    (omega arith, rw (number, first, both, second))
+    let number : (32768 + i + 128 * j) / 16384 ≡ 2 = omega arith in
+    let first : (32768 + i + 128 * j) % 128 ≡ i = omega arith in
+    let both : (32768 + i + 128 * j) / 128 ≡ 256 + j = omega arith in
+    let second : (256 + j) % 128 ≡ j = omega arith in
+    rw (number, first, both, second)
 
 -- a table that is copied behind others is still that table
 pub places-behind : (d : Degree) (at : ℕ) (from a b : List ℕ) → Places d 0 from → Copied at (size d * size d) from a b → Places d at b

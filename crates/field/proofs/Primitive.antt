@@ -4,12 +4,12 @@
 use mathlib.Core.Path.{_≡_, refl, sym, ap, _∙_}
 use mathlib.Core.Bool.{Bool, true, false, _&&_}
 use mathlib.Core.Logic.{_≢_}
-use Prim.Native.Nat.{ℕ, zero, suc, _<_, _≤_}
+use Prim.Native.Nat.{ℕ, zero, suc, _*_, _/_, _<_, _≤_}
 use native.Mathlib.Omega.{arith}
 use lib.Dec.{T, eqb, ltb, leb, eqb→eq, ltb→lt, leb→le}
 use Rattle.laws.proofs.Tests.{and-left, and-right, every, every-at}
 use Rattle.degree.specs.declared.Degree.{Degree}
-use Rattle.degree.specs.declared.Degree.the-variants.{Four, Six}
+use Rattle.degree.specs.declared.Degree.the-variants.{Four, Six, Seven}
 use Rattle.degree.specs.Degree.{bits, size, order}
 use Rattle.field.specs.Field.{polynomial, double, timesPower, power}
 use Rattle.field.specs.working.Products.{productOf}
@@ -25,11 +25,13 @@ pub record Primitive (d : Degree) : Type 0 where
   pub closes : power d (order d) ≡ 1
   -- the polynomial is 0 at α
   pub root : productOf d (suc (bits d)) (polynomial d) 1 ≡ 0
-  -- 0 and 1 are different elements, and an element has at most 6 binary digits
+  -- 0 and 1 are different elements, and an element has at most 7 binary digits
   pub more : 1 < size d
-  pub room : size d ≤ 64
+  pub room : size d ≤ 128
   -- there are at least three powers
   pub three : 3 ≤ order d
+  -- a word's cells are whole bytes
+  pub bytes : size d / 8 * 8 ≡ size d
 
 module _ (d : Degree) where
   -- the first i below k with α^i y equal to x
@@ -50,7 +52,7 @@ module _ (d : Degree) where
   once? i = eqb (log (power d i)) i
 
   abbrev small? : Bool
-  small? = ltb 1 (size d) && (leb (size d) 64 && leb 3 (order d))
+  small? = ltb 1 (size d) && (leb (size d) 128 && (leb 3 (order d) && eqb (size d / 8 * 8) (size d)))
 
   abbrev root? : Bool
   root? = eqb (power d (order d)) 1 && eqb (productOf d (suc (bits d)) (polynomial d) 1) 0
@@ -85,14 +87,16 @@ module _ (d : Degree) where
         closes = eqb→eq (power d (order d)) 1 (search (and-left, and-right));
         root = eqb→eq (productOf d (suc (bits d)) (polynomial d) 1) 0 (search (and-left, and-right));
         more = ltb→lt 1 (size d) (search (and-left, and-right));
-        room = leb→le (size d) 64 (search (and-left, and-right));
+        room = leb→le (size d) 128 (search (and-left, and-right));
         three = leb→le 3 (order d) (search (and-left, and-right) depth 8);
+        bytes = eqb→eq (size d / 8 * 8) (size d) (search (and-left, and-right) depth 8);
       }
 
 passes : (d : Degree) → T (primitive? d)
 unfolding primitive? double timesPower productOf
 passes Four = tt
 passes Six = tt
+passes Seven = tt
 
 pub primitive : (d : Degree) → Primitive d
 primitive d = told d (passes d)

@@ -22,8 +22,8 @@ use Rattle.field.proofs.Powers.{power-lt}
 use Rattle.laws.proofs.DigitSums.{sum-lt, xor-pair, sum-pair, sum-ones, up-to-below, up-to-past, sum-up-to}
 
 module _ (d : Degree) where
-  -- an element has at most 6 binary digits
-  pub power-small : (i : ℕ) → power d i < 64
+  -- an element has at most 7 binary digits
+  pub power-small : (i : ℕ) → power d i < 128
   power-small i = omega (arith, power-lt d i, primitive d .room)
 
   -- ---- one weight
@@ -70,11 +70,10 @@ module _ (d : Degree) where
   pub weight-two : (i j : ℕ) → i < order d → j < order d
       → bitXor (weight d i) (weight d j) ≡ bitXor (power d i) (power d j) + 128 * bitXor (power d (3 * i)) (power d (3 * j))
   weight-two i j hi hj =
-      let small : (k : ℕ) → power d k < 128 = λ k. omega (arith, power-small k) in
       let even : bitXor (power d (3 * i) + 128) (power d (3 * j) + 128) ≡ bitXor (power d (3 * i)) (power d (3 * j)) =
-      xor-pair 1 1 (small (3 * i)) (small (3 * j)) ∙ add-zero (bitXor (power d (3 * i)) (power d (3 * j))) in
+      xor-pair 1 1 (power-small (3 * i)) (power-small (3 * j)) ∙ add-zero (bitXor (power d (3 * i)) (power d (3 * j))) in
       rw (weight-below i hi, weight-below j hj)
-      (xor-pair (power d (3 * i) + 128) (power d (3 * j) + 128) (small i) (small j)
+      (xor-pair (power d (3 * i) + 128) (power d (3 * j) + 128) (power-small i) (power-small j)
       ∙ ap (λ (x : ℕ). bitXor (power d i) (power d j) + 128 * x) even)
 
   -- ---- a sum of weights
@@ -87,7 +86,7 @@ module _ (d : Degree) where
   s3-lt cells = sum-lt (bits d) (λ i. power d (3 * i)) (λ i. power-lt d (3 * i)) (take (order d) cells)
 
   -- a section has 7 binary digits
-  small : (m : ℕ) (f : ℕ → ℕ) → ((i : ℕ) → f i < 64) → (i : ℕ) → upTo m f i < 128
+  small : (m : ℕ) (f : ℕ → ℕ) → ((i : ℕ) → f i < 128) → (i : ℕ) → upTo m f i < 128
   small m f h i =
       dite (decLt i m) (λ l. rw (up-to-below m f i l) (omega (arith, h i))) (λ l. rw (up-to-past m f i (omega arith)) (omega arith))
 

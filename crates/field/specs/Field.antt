@@ -3,13 +3,14 @@
 use Prim.Native.Nat.{ℕ, zero, suc, _*_, _/_, _%_}
 use lib.Bits.{bitXor}
 use Rattle.degree.specs.declared.Degree.{Degree}
-use Rattle.degree.specs.Degree.{bits, size}
-use Rattle.degree.specs.declared.Degree.the-variants.{Four, Six}
+use Rattle.degree.specs.Degree.{size}
+use Rattle.degree.specs.declared.Degree.the-variants.{Four, Six, Seven}
 
--- the polynomial whose root is α, bit i the coefficient of α^i: α^4 + α + 1 and α^6 + α + 1
+-- the polynomial whose root is α, bit i the coefficient of α^i: α^4 + α + 1, α^6 + α + 1, and α^7 + α^3 + 1 (document 02, W-212)
 abbrev pub polynomial : Degree → ℕ
 polynomial Four = 19
 polynomial Six = 67
+polynomial Seven = 137
 
 -- x times α: shifted by one, and the polynomial, which is 0, added where α^v came up
 unfoldable pub double : Degree → ℕ → ℕ

@@ -23,7 +23,7 @@ pub fn log_of(d: Degree, x: u16, tables: &FieldTables) -> usize
     requires { ⌜ (x < size d) × (x ≢ 0) × Tables d (now tables) ⌝ }
     ensures { λ r. ⌜ (r < order d) × (power d r ≡ x) ⌝ }
 {
-    let at = 64 + x as usize;
+    let at = 128 + x as usize;
     tables[at] as usize
 }
 

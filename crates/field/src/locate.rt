@@ -1,16 +1,19 @@
 // The error positions that fit two check sums: by a search for two, and at degree 6 by a fixed table.
 use crate::element::log_of;
+use crate::syndrome::syndrome_of;
 use crate::tables::FieldTables;
+use crate::tables::order_in;
 use degree::Degree;
-use degree::order_of;
 ghost use mathlib.Core.Path.{_≡_};
 ghost use mathlib.Core.Logic.{_≢_};
-ghost use Prim.Native.Nat.{ℕ, _+_, _*_, _<_};
+ghost use Prim.Native.Nat.{ℕ, _+_, _*_, _^_, _<_};
 ghost use lib.Dec.{eqb};
+ghost use Rattle.laws.specs.Digits.{digits};
+ghost use Rattle.words.specs.working.Word.{width};
 ghost use Rattle.degree.specs.Degree.{size, order};
 ghost use Rattle.field.specs.working.Positions.{located, atMostOne, usable, Below};
 ghost use Rattle.field.specs.working.Fitting.{Second};
-ghost use Rattle.field.specs.working.Places.{positionsOf};
+ghost use Rattle.field.specs.working.Places.{positionsOf, IsPlace};
 ghost use Rattle.field.specs.working.Tables.{Tables};
 
 // Cells below n - 1 that are wrong.
@@ -65,7 +68,7 @@ fn locate_pair(d: Degree, s1: u16, s3: u16, tables: &FieldTables) -> Positions
     ensures { λ r. ⌜ r ≡ located d s1 s3 ⌝ }
 {
     let sums = s1 + 128 * s3;
-    let last = order_of(d) - 1;
+    let last = order_in(d, tables) - 1;
     let mut i = 0;
     let mut j = second_of(d, s1, sums, i, tables);
     while (j >= 65536) & (i < last) {
@@ -99,35 +102,51 @@ pub fn locate(d: Degree, s1: u16, s3: u16, tables: &FieldTables) -> Positions
 
 // The entry that stands for positions.
 fn entry_of(positions: Positions) -> u16
-    requires { ⌜ Below 64 positions ⌝ }
-    ensures { λ r. ⌜ (r < 16384) × (positionsOf r ≡ positions) ⌝ }
+    requires { ⌜ Below 128 positions ⌝ }
+    ensures { λ r. ⌜ positionsOf r ≡ positions ⌝ }
 {
     match positions {
         Positions::Zero => 0,
-        Positions::One(only) => 4096 + only as u16,
-        Positions::Two(low, high) => 8192 + low as u16 + 64 * (high as u16),
-        Positions::Unfit => 12288,
+        Positions::One(only) => 16384 + only as u16,
+        Positions::Two(low, high) => 32768 + low as u16 + 128 * (high as u16),
+        Positions::Unfit => 49152,
     }
 }
 
-// The positions that fit two check sums, as an entry: at degree 6 read off the table, at another degree by a search. Two wrong
-// positions make an even word; of an odd word, in which the last cell is wrong too, they can't be mended, and no time is spent on a
-// search for them.
-pub fn place_of(d: Degree, s1: u16, s3: u16, parity: u16, tables: &FieldTables) -> u16
+// The positions that fit two check sums, by a search, as an entry. Two wrong positions make an even word; of an odd word, in which
+// the last cell is wrong too, they can't be mended, and no time is spent on a search for them.
+fn searched_place(d: Degree, s1: u16, s3: u16, parity: u16, tables: &FieldTables) -> u16
     requires { ⌜ (s1 < size d) × (s3 < size d) × Tables d (now tables) ⌝ }
-    ensures { λ r. ⌜ (r < 16384) × (usable (eqb parity 0) (positionsOf r) ≡ usable (eqb parity 0) (located d s1 s3)) ⌝ }
+    ensures { λ r. ⌜ usable (eqb parity 0) (positionsOf r) ≡ usable (eqb parity 0) (located d s1 s3) ⌝ }
+{
+    if parity == 0 {
+        entry_of(locate(d, s1, s3, tables))
+    } else {
+        entry_of(locate_single(d, s1, s3, tables))
+    }
+}
+
+// The positions that fit two check sums, as an entry: at degree 6 read off the table, at another degree by a search.
+fn place_of(d: Degree, s1: u16, s3: u16, parity: u16, tables: &FieldTables) -> u16
+    requires { ⌜ (s1 < size d) × (s3 < size d) × Tables d (now tables) ⌝ }
+    ensures { λ r. ⌜ usable (eqb parity 0) (positionsOf r) ≡ usable (eqb parity 0) (located d s1 s3) ⌝ }
 {
     match d {
-        Degree::Four => {
-            if parity == 0 {
-                entry_of(locate(d, s1, s3, tables))
-            } else {
-                entry_of(locate_single(d, s1, s3, tables))
-            }
-        }
         Degree::Six => {
-            let at = 2176 + (64 * (s1 as usize) + s3 as usize);
+            let at = 4352 + (64 * (s1 as usize) + s3 as usize);
             tables[at]
         }
+        _ => searched_place(d, s1, s3, parity, tables),
     }
+}
+
+// The entry of a word's error positions, in the lowest 16 binary digits, and above them the parity. Both are 0 exactly where the word
+// needs no mending.
+pub fn word_place(d: Degree, low: u64, high: u64, tables: &FieldTables) -> u32
+    requires { ⌜ Tables d (now tables) ⌝ }
+    ensures { λ r. ⌜ IsPlace d (digits width (high * 2 ^ 64 + low)) r ⌝ }
+{
+    let s = syndrome_of(d, low, high, tables);
+    let place = place_of(d, s.s1, s.s3, s.parity, tables);
+    place as u32 + 65536 * (s.parity as u32)
 }

@@ -1,10 +1,13 @@
-// The check sums of a packed word.
+// The check sums of a packed word, which is handed over as its two numbers: a word that a function takes as a whole is stored and read
+// back, and that takes longer than the sums.
 use crate::tables::FieldTables;
 use degree::Degree;
-ghost use mathlib.Core.Path.{_≡_};
-ghost use Rattle.laws.specs.Digits.{sumOver, digits};
+use words::sums::byte_sum;
+ghost use Prim.Native.Nat.{_+_, _*_, _^_};
+ghost use Rattle.laws.specs.Digits.{digits};
 ghost use Rattle.field.specs.working.Checks.{IsSyndrome};
-ghost use Rattle.field.specs.working.Tables.{Tables, weight};
+ghost use Rattle.field.specs.working.Tables.{Tables};
+ghost use Rattle.words.specs.working.Word.{width};
 
 // The sum of α^i, the sum of α^(3i), and the parity.
 pub struct Syndrome {
@@ -13,29 +16,12 @@ pub struct Syndrome {
     pub parity: u16,
 }
 
-// The weights of the cells that hold 1, summed byte by byte.
-fn weight_of(d: Degree, word: u64, tables: &FieldTables) -> u16
+// The weights of the cells that hold 1, summed byte by byte: a weight holds the three sums side by side.
+pub fn syndrome_of(d: Degree, low: u64, high: u64, tables: &FieldTables) -> Syndrome
     requires { ⌜ Tables d (now tables) ⌝ }
-    ensures { λ r. ⌜ r ≡ sumOver (λ i. weight d i) (digits 64 word) ⌝ }
+    ensures { λ r. ⌜ IsSyndrome d (digits width (high * 2 ^ 64 + low)) r ⌝ }
 {
-    let mut sum: u16 = 0;
-    let mut rest = word;
-    let mut j = 0;
-    while j < 8 {
-        let at = 128 + j * 256 + (rest % 256) as usize;
-        sum = sum ^ tables[at];
-        rest = rest / 256;
-        j += 1;
-    }
-    sum
-}
-
-// A weight holds the three sums side by side.
-pub fn syndrome_of(d: Degree, word: u64, tables: &FieldTables) -> Syndrome
-    requires { ⌜ Tables d (now tables) ⌝ }
-    ensures { λ r. ⌜ IsSyndrome d (digits 64 word) r ⌝ }
-{
-    let sum = weight_of(d, word, tables);
+    let sum = byte_sum(low, high, tables, 256);
     let s1 = sum % 128;
     let s3 = sum / 128 % 128;
     let parity = sum / 16384;

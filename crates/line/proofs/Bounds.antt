@@ -10,16 +10,16 @@ use Rattle.field.proofs.Primitive.{primitive}
 use Rattle.line.specs.Encoding.{checkSize, messageSize}
 use Rattle.line.proofs.LineEncoding.{inverse}
 
-pub product-le : (x y : ℕ) → x ≤ 64 → y ≤ 64 → x * y ≤ 4096
+pub product-le : (x y : ℕ) → x ≤ 128 → y ≤ 128 → x * y ≤ 16384
 product-le x y h l = mul-le-mul h l
 
-pub square-le : (x : ℕ) → x ≤ 64 → x * x ≤ 4096
+pub square-le : (x : ℕ) → x ≤ 128 → x * x ≤ 16384
 square-le x h = product-le x x h h
 
-pub size-le : (d : Degree) {x : ℕ} → x ≡ size d → x ≤ 64
+pub size-le : (d : Degree) {x : ℕ} → x ≡ size d → x ≤ 128
 size-le d e = omega (arith, primitive d .room)
 
-pub message-le : (d : Degree) {x : ℕ} → x ≡ messageSize d → x ≤ 64
+pub message-le : (d : Degree) {x : ℕ} → x ≡ messageSize d → x ≤ 128
 message-le d e = omega (arith, primitive d .room)
 
 -- the check cells and the message cells are cells

@@ -13,7 +13,7 @@ use Rattle.line.specs.Cells.{erasures, few, distance, designedDistance}
 use Rattle.line.specs.Bounded.{Answer, orBack}
 use Rattle.line.specs.Decoding.{choice}
 use Rattle.line.specs.working.Packed.{Packs, PacksWord}
-use Rattle.line.specs.working.Word.{value}
+use Rattle.words.specs.working.Word.{value}
 use Rattle.line.specs.working.Tries.{Answers, failed, found}
 use Rattle.line.proofs.Packing.{differences-of}
 

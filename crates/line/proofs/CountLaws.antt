@@ -9,7 +9,7 @@ use lib.Dec.{eqb}
 use lib.ListN.{length}
 use borrow.Author.Tests.{eqb-true}
 use Rattle.degree.specs.declared.Degree.{Degree}
-use Rattle.degree.specs.declared.Degree.the-variants.{Four, Six}
+use Rattle.degree.specs.declared.Degree.the-variants.{Four, Six, Seven}
 use Rattle.degree.specs.Degree.{size}
 use Rattle.laws.specs.Sums.{sumTo}
 use Rattle.laws.proofs.Sums.{sum-le, sum-constant, sum-first}
@@ -91,6 +91,7 @@ module _ (dec : List ℕ → Answer) (y r : List ℕ) (f : ℕ) where
 size-least : (d : Degree) → 10 ≤ size d
 size-least Four = omega arith
 size-least Six = omega arith
+size-least Seven = omega arith
 
 -- the count of a line is at most two more than its cells
 pub count-le : (d : Degree) (y r : List ℕ) (f : ℕ) → IsLine (size d) y → count (bounded d) y r f ≤ size d + 2

@@ -18,6 +18,8 @@ pub mod CountLaws
 pub mod Examples
 pub mod ClauseExamples
 pub mod CodeExamples
+pub mod FillingNumbers
+pub mod LongExamples
 mod Reaching
 mod Settling
 mod Starting

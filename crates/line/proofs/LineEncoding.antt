@@ -20,7 +20,7 @@ use Rattle.laws.proofs.Bits.{bit-one, bit-at-lt}
 use Rattle.laws.proofs.Tests.{every, and-left, and-right, every-at}
 use Rattle.laws.proofs.Xor.{xor-eq, digit-lt}
 use Rattle.degree.specs.declared.Degree.{Degree}
-use Rattle.degree.specs.declared.Degree.the-variants.{Four, Six}
+use Rattle.degree.specs.declared.Degree.the-variants.{Four, Six, Seven}
 use Rattle.degree.specs.Degree.{bits, size, order}
 use Rattle.field.specs.Field.{double, timesPower, power}
 use Rattle.laws.specs.Digits.{sumOver, ones, digits}
@@ -74,6 +74,7 @@ passes : (d : Degree) → T (inverse? d)
 unfolding inverse? sums checksFor sumOver digits double timesPower
 passes Four = tt
 passes Six = tt
+passes Seven = tt
 
 pub inverse : (d : Degree) → Inverse d
 inverse d = told d (passes d)

@@ -18,7 +18,7 @@ use Rattle.degree.specs.declared.Degree.{Degree}
 use Rattle.degree.specs.Degree.{size}
 use Rattle.line.specs.declared.clause.Clause.the-variants.{Equal, Channel}
 use Rattle.line.specs.declared.packed.Line.{Line}
-use Rattle.line.specs.working.Word.{value}
+use Rattle.words.specs.working.Word.{value}
 use Rattle.line.specs.Cells.{cell, isErased, erasures, few, designedDistance}
 use Rattle.line.specs.working.Packed.{isOne, packBy, Packs}
 use Rattle.line.specs.Bounded.{bounded}

@@ -23,15 +23,15 @@ use Rattle.line.specs.declared.side.Side.{Side}
 use Rattle.line.specs.declared.side.Side.the-variants.{One, Two}
 use Rattle.line.specs.declared.packed.Line.{Line}
 use Rattle.line.specs.Cells.{cell, isErased, erasures, few, distance, filled, designedDistance, radius}
-use Rattle.line.specs.working.Packed.{packBy, Packs}
-use Rattle.line.specs.working.Word.{value}
+use Rattle.line.specs.working.Packed.{packBy, Packs, PacksWord}
+use Rattle.words.specs.working.Word.{value}
 use Rattle.line.proofs.PackBits.{packBy-bit}
 use Rattle.line.proofs.Packing.{bit-of-word}
 use Rattle.line.proofs.RowLaws.{word-packs-one}
 use Rattle.line.specs.declared.bounded.Tried.{Tried}
 use Rattle.line.specs.Bounded.{Answer, Found, Failed, orBack, bounded}
 use Rattle.line.specs.Decoding.{choice, replaced, decode, message}
-use Rattle.line.specs.working.Tries.{Answers, failed, found}
+use Rattle.line.specs.working.Tries.{Answers, failed, found, Decodes}
 use Rattle.line.specs.declared.clause.Clause.the-variants.{Both}
 use Rattle.line.specs.declared.clause.Trial.{Trial}
 use Rattle.line.specs.declared.clause.Base.{Base}
@@ -67,10 +67,6 @@ stays-at h k em ev ew z =
     ∙ ap₂ bitXor (xor-at a c k) (and-at (bitXor a c) (bitXor o a) k ∙ ap₂ bitAnd (xor-at a c k) (xor-at o a k)) in
     ap (λ (x : Bool). ltb (h .tried .changed) radius || x) (stays-bit (bit-at-lt a k) (bit-at-lt c k) (bit-at-lt o k) (sym e ∙ sym (ap (λ (x : ℕ). bitAt x k) whole) ∙ z)) ∙ or-true (ltb (h .tried .changed) radius)
 
--- a codeword nearer than the radius stays in reach at every cell
-stays-near : (h : Trial) (k : ℕ) → ltb (h .tried .changed) radius ≡ true → stays h k ≡ true
-stays-near h k g = rw g refl
-
 pub crowding-at : {n : ℕ} {rs : List ℕ} {r : Line} (k : ℕ) → Packs n rs r → bitAt (value (r .erased)) k ≡ 0 → isErased (cell rs k) ≡ false
 crowding-at {rs} {r} k q z = go (isErased (cell rs k)) (sym (rw (q .erased) (packBy-bit isErased refl rs k)) ∙ z)
   where
@@ -99,24 +95,15 @@ choice-one y c = go (ltb (distance y c) (distance y c))
     go true = refl
     go false = refl
 
-module _ (d : Degree) (ys rs : List ℕ) (f : ℕ) {b : Base} (B : Based d ys rs f b) (e : few ys ≡ true) (o : oneCodeword b ≡ true) where
-  -- the incoming line and the channel line, packed
-  p : Packs (size d) ys (b .incoming)
-  p = B .incoming
-
-  q : Packs (size d) rs (b .channel)
-  q = B .channel
+module _ (d : Degree) (ys rs : List ℕ) (f : ℕ) {y r : Line} (p : Packs (size d) ys y) (q : Packs (size d) rs r)
+    {one two : Tried} (D₁ : Decodes d (filled One ys f) one) (D₂ : Decodes d (filled Two ys f) two) (e : few ys ≡ true) (o : oneCodeword one two ≡ true) where
+  both-found : (one .found ≡ true) × (two .found ≡ true)
+  both-found = and-true (one .found) (two .found) (and-true (one .found && two .found) (eqb (value (one .word)) (value (two .word))) o .0)
 
   agreed : Agree (bounded d (filled One ys f)) (bounded d (filled Two ys f))
   agreed =
-      let s = and-true (b .one .tried .found && b .two .tried .found) (eqb (value (b .one .tried .word)) (value (b .two .tried .word))) o in
-      let t = and-true (b .one .tried .found) (b .two .tried .found) (s .0) in
-      agree (B .one e .tried .answer) (B .two e .tried .answer) (t .0) (t .1) (eqb-true (value (b .one .tried .word)) (value (b .two .tried .word)) (s .1))
-
-  in-reach : (k : ℕ) → k < size d → (s : Side) (h : Trial) → TrialOf d ys rs f s h → h .tried .found ≡ true → stays h k ≡ true → reach (bounded d) ys rs f k s ≡ true
-  in-reach k hk s h H g t =
-      sym (reach-at d ys rs f k (p .cells) (q .cells) hk s h H (bitAt (value (h .tried .word)) k) (λ c w. bit-of-word k w))
-      ∙ rw (g, ← bit-of-word k (H .before), ← (bit-of-word k (H .channel) ∙ channel-bit d ys rs f k (p .cells) (q .cells) hk s)) t
+      let s = and-true (one .found && two .found) (eqb (value (one .word)) (value (two .word))) o in
+      agree (D₁ .answer) (D₂ .answer) (both-found .0) (both-found .1) (eqb-true (value (one .word)) (value (two .word)) (s .1))
 
   both-clause : (k : ℕ) → reach (bounded d) ys rs f k One ≡ true → reach (bounded d) ys rs f k Two ≡ true → Both ≡ byReach (bounded d) ys rs f k
   unfolding byReach
@@ -127,31 +114,54 @@ module _ (d : Degree) (ys rs : List ℕ) (f : ℕ) {b : Base} (B : Based d ys rs
   own-cell k A = rw (e, A .first, A .second, choice-one ys (A .codeword), choice-one (replaced ys rs k) (A .codeword)) refl
 
   -- a cell at which it stays in reach of both
-  pub own-message : (k : ℕ) → k < size d → stays (b .one) k ≡ true → stays (b .two) k ≡ true → (eqb (b .erased + 1) designedDistance && eqb (cell rs k) 2) ≡ false
+  own-message : (k : ℕ) → k < size d → reach (bounded d) ys rs f k One ≡ true → reach (bounded d) ys rs f k Two ≡ true → (eqb (erasures ys + 1) designedDistance && eqb (cell rs k) 2) ≡ false
       → (cell (start d ys rs f) k ≡ message (bounded d) ys rs f k) × (cost (clause (bounded d) ys rs f k) ≡ 0)
   own-message k hk g h l = go (ℕ-discrete (cell ys k) (cell rs k))
     where
-      s : (b .one .tried .found ≡ true) × (b .two .tried .found ≡ true)
-      s =
-          and-true (b .one .tried .found) (b .two .tried .found)
-          (and-true (b .one .tried .found && b .two .tried .found) (eqb (value (b .one .tried .word)) (value (b .two .tried .word))) o .0)
-
       go : Dec (cell ys k ≡ cell rs k) → (cell (start d ys rs f) k ≡ message (bounded d) ys rs f k) × (cost (clause (bounded d) ys rs f k) ≡ 0)
-      go (yes z) = outside d ys rs f p q (B .erased) k hk (rw e (equal-clause d ys rs f k (p .cells) (q .cells) hk e z))
+      go (yes z) = outside d ys rs f p q refl k hk (rw e (equal-clause d ys rs f k (p .cells) (q .cells) hk e z))
       go (no z) =
-          let c : Both ≡ clause (bounded d) ys rs f k =
-          both-clause k (in-reach k hk One (b .one) (B .one e) (s .0) g) (in-reach k hk Two (b .two) (B .two e) (s .1) h)
-          ∙ reach-clause d ys rs f k (p .cells) (q .cells) hk e z (rw (← B .erased) l) in
+          let c : Both ≡ clause (bounded d) ys rs f k = both-clause k g h ∙ reach-clause d ys rs f k (p .cells) (q .cells) hk e z l in
           rw (clause-settles d ys rs f k (p .cells) (q .cells) hk, ← c) (own-cell k agreed, refl)
 
+  -- a codeword nearer than the radius stays in reach at every cell
+  near-reach : (k : ℕ) → k < size d → (s : Side) (t : Tried) → Decodes d (filled s ys f) t → t .found ≡ true → ltb (t .changed) radius ≡ true → reach (bounded d) ys rs f k s ≡ true
+  near-reach k hk s t D g h =
+      sym (reach-at d ys rs f k (p .cells) (q .cells) hk s t D (bitAt (value (t .word)) k) (λ c w. bit-of-word k w)) ∙ rw (g, h)
+
   -- where nothing takes it out of reach of either, and no cell is crowded, it is the message of every cell
-  pub quiet-mask : b .erased < designedDistance - 1 → ltb (b .one .tried .changed) radius ≡ true → ltb (b .two .tried .changed) radius ≡ true → Masks d ys rs f 0
+  pub quiet-mask : erasures ys < designedDistance - 1 → ltb (one .changed) radius ≡ true → ltb (two .changed) radius ≡ true → Masks d ys rs f 0
   quiet-mask l g h = record {
     small = pow-pos (size d);
-    rest = λ k hk z. own-message k hk (stays-near (b .one) k g) (stays-near (b .two) k h) (ap (λ (x : Bool). x && eqb (cell rs k) 2) (ne-eqb (b .erased + 1) designedDistance (λ z. omega arith)));
+    rest = λ k hk z. own-message k hk (near-reach k hk One one D₁ (both-found .0) g) (near-reach k hk Two two D₂ (both-found .1) h) (ap (λ (x : Bool). x && eqb (cell rs k) 2) (ne-eqb (erasures ys + 1) designedDistance (λ z. omega arith)));
   }
 
-  -- so the mask of the cells at which it does not
+  -- and the line that the messages start from
+  pub quiet-start : {l : Line} → ((n : ℕ) (ws : List ℕ) → PacksWord n ws (value (one .word)) → Packs n ws l) → Packs (size d) (start d ys rs f) l
+  unfolding start decode
+  quiet-start {l} whole = rw (e, agreed .first, agreed .second, choice-one ys (agreed .codeword)) (whole (size d) (agreed .codeword) (word-of (bounded d (filled One ys f)) (D₁ .answer) (agreed .first)))
+    where
+      word-of : (a : Answer) → Answers (size d) a one → a ≡ Found (agreed .codeword) → PacksWord (size d) (agreed .codeword) (value (one .word))
+      word-of _ (failed g) h = absurd (true≢false (sym (both-found .0) ∙ g))
+      word-of _ (found {c} g w) h = let same : c ≡ agreed .codeword = cc in rw (← same) w
+
+-- the mask of the cells at which it does not stay in reach of both
+module _ (d : Degree) (ys rs : List ℕ) (f : ℕ) {b : Base} (B : Based d ys rs f b) (e : few ys ≡ true) (o : oneCodeword (b .one .tried) (b .two .tried) ≡ true) where
+  in-reach : (k : ℕ) → k < size d → (s : Side) (h : Trial) → TrialOf d ys rs f s h → h .tried .found ≡ true → stays h k ≡ true → reach (bounded d) ys rs f k s ≡ true
+  in-reach k hk s h H g t =
+      let p = B .incoming in
+      let q = B .channel in
+      sym (reach-at d ys rs f k (p .cells) (q .cells) hk s (h .tried) (H .tried) (bitAt (value (h .tried .word)) k) (λ c w. bit-of-word k w))
+      ∙ rw (g, ← bit-of-word k (H .before), ← (bit-of-word k (H .channel) ∙ channel-bit d ys rs f k (p .cells) (q .cells) hk s)) t
+
+  stays-message : (k : ℕ) → k < size d → stays (b .one) k ≡ true → stays (b .two) k ≡ true → (eqb (b .erased + 1) designedDistance && eqb (cell rs k) 2) ≡ false
+      → (cell (start d ys rs f) k ≡ message (bounded d) ys rs f k) × (cost (clause (bounded d) ys rs f k) ≡ 0)
+  stays-message k hk g h l =
+      let D₁ = B .one e .tried in
+      let D₂ = B .two e .tried in
+      let s = both-found d ys rs f (B .incoming) (B .channel) D₁ D₂ e o in
+      own-message d ys rs f (B .incoming) (B .channel) D₁ D₂ e o k hk (in-reach k hk One (b .one) (B .one e) (s .0) g) (in-reach k hk Two (b .two) (B .two e) (s .1) h) (rw (← B .erased) l)
+
   pub own-mask : (a l m c : ℕ) → Masks d ys rs f a → ((k : ℕ) → bitAt l k ≡ 0 → stays (b .one) k ≡ true) → ((k : ℕ) → bitAt m k ≡ 0 → stays (b .two) k ≡ true)
       → ((k : ℕ) → bitAt c k ≡ 0 → (eqb (b .erased + 1) designedDistance && eqb (cell rs k) 2) ≡ false) → Masks d ys rs f (bitAnd a (bitOr l (bitOr m c)))
   own-mask a l m c A L M C = record { small = lt-of-le-of-lt (and-le-l a (bitOr l (bitOr m c))) (A .small); rest = rest }
@@ -164,4 +174,4 @@ module _ (d : Degree) (ys rs : List ℕ) (f : ℕ) {b : Base} (B : Based d ys rs
           go (inr e) =
               let x = sym (or-at l (bitOr m c) k) ∙ e in
               let y = sym (or-at m c k) ∙ or-second (bitAt l k) (bitAt (bitOr m c) k) x in
-              own-message k hk (L k (or-first (bitAt l k) (bitAt (bitOr m c) k) x)) (M k (or-first (bitAt m k) (bitAt c k) y)) (C k (or-second (bitAt m k) (bitAt c k) y))
+              stays-message k hk (L k (or-first (bitAt l k) (bitAt (bitOr m c) k) x)) (M k (or-first (bitAt m k) (bitAt c k) y)) (C k (or-second (bitAt m k) (bitAt c k) y))

@@ -16,9 +16,9 @@ use Rattle.laws.proofs.Xor.{bit-ind, xors}
 use Rattle.laws.proofs.Bits.{bit-one, xor-bit, low-bit, half-bit}
 use Rattle.words.specs.working.Pairs.{bitsOf, pairsOf}
 use Rattle.line.specs.declared.side.Side.the-variants.{One, Two}
-use Rattle.line.specs.declared.word.Word.{Word}
+use Rattle.words.specs.declared.word.Word.{Word}
 use Rattle.line.specs.declared.packed.Line.{Line}
-use Rattle.line.specs.working.Word.{value, width}
+use Rattle.words.specs.working.Word.{value, width}
 use Rattle.line.specs.Cells.{cell, isErased, erasures, distance, filled, flip}
 use Rattle.line.specs.working.Packed.{isOne, packBy, Packs, PacksWord}
 use Rattle.line.proofs.CellLaws.{set-cells, filled-word}

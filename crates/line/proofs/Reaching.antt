@@ -18,7 +18,6 @@ use Rattle.line.specs.declared.side.Side.the-variants.{One, Two}
 use Rattle.line.specs.declared.clause.Clause.{Clause}
 use Rattle.line.specs.declared.clause.Clause.the-variants.{Equal, Crowded, Afresh, Channel}
 use Rattle.line.specs.declared.bounded.Tried.{Tried}
-use Rattle.line.specs.declared.clause.Trial.{Trial}
 use Rattle.line.specs.declared.clause.Seen.{Seen}
 use Rattle.line.specs.working.Packed.{IsLine, PacksWord}
 use Rattle.line.specs.Cells.{cell, isErased, erasures, few, distance, filled, fillingBit, designedDistance, radius}
@@ -26,9 +25,10 @@ use Rattle.line.specs.working.OneCell.{differs, filledCell}
 use Rattle.line.specs.Bounded.{Answer, Found, Failed, orBack, bounded, changed as changedBy}
 use Rattle.line.specs.Decoding.{replaced}
 use Rattle.line.specs.Clauses.{near, reach, same, agrees, answerCell, firstFit, byReach, clause}
-use Rattle.line.specs.working.Word.{value}
-use Rattle.line.specs.working.Tries.{Answers, failed, found}
-use Rattle.line.specs.working.Fillings.{TrialOf, Sees}
+use Rattle.words.specs.working.Word.{value}
+use Rattle.line.specs.declared.bounded.Tried.{Tried}
+use Rattle.line.specs.working.Tries.{Answers, failed, found, Decodes}
+use Rattle.line.specs.working.Fillings.{Sees}
 use Rattle.line.proofs.CellLaws.{bitsFrom, filled-cell, filled-word, distance-set, erased-or-known}
 use Rattle.line.proofs.Distances.{bounded-decoder}
 use Rattle.line.proofs.ClauseLaws.{now-is, now-cell, z-cell, new-lt, changed}
@@ -63,21 +63,21 @@ module _ (d : Degree) (ys rs : List ℕ) (f k : ℕ) (ly : IsLine (size d) ys) (
   channel-bit s = filled-cell s rs f k (rw (lr .long) hk) ∙ sym (now-cell (bounded-decoder d) ys rs f k ly lr hk s)
 
   -- a filling, and cell k of what it found
-  module _ (s : Side) (h : Trial) (H : TrialOf d ys rs f s h) (own : ℕ) (is-own : (c : List ℕ) → PacksWord (size d) c (value (h .tried .word)) → own ≡ cell c k) where
-    pub value-at : cond (h .tried .found) own (cell rs k) ≡ answerCell (bounded d) ys rs f k (bounded d (filled s ys f))
-    value-at = go (H .tried .answer)
+  module _ (s : Side) (t : Tried) (H : Decodes d (filled s ys f) t) (own : ℕ) (is-own : (c : List ℕ) → PacksWord (size d) c (value (t .word)) → own ≡ cell c k) where
+    pub value-at : cond (t .found) own (cell rs k) ≡ answerCell (bounded d) ys rs f k (bounded d (filled s ys f))
+    value-at = go (H .answer)
       where
-        go : {p : Answer} → Answers (size d) p (h .tried) → cond (h .tried .found) own (cell rs k) ≡ answerCell (bounded d) ys rs f k p
+        go : {p : Answer} → Answers (size d) p t → cond (t .found) own (cell rs k) ≡ answerCell (bounded d) ys rs f k p
         go (failed e) = rw e (sym (z-cell (bounded-decoder d) ys rs f k ly lr hk))
         go (found {c} e w) = rw e (is-own c w)
 
-    pub reach-at : (h .tried .found && (ltb (h .tried .changed) radius || (eqb (cell (filled s ys f) k) (cell (filled s (replaced ys rs k) f) k) || not (eqb own (cell (filled s ys f) k)))))
+    pub reach-at : (t .found && (ltb (t .changed) radius || (eqb (cell (filled s ys f) k) (cell (filled s (replaced ys rs k) f) k) || not (eqb own (cell (filled s ys f) k)))))
         ≡ reach (bounded d) ys rs f k s
     unfolding reach
-    reach-at = go (bounded d (filled s ys f)) refl (H .tried .answer)
+    reach-at = go (bounded d (filled s ys f)) refl (H .answer)
       where
-        go : (p : Answer) → bounded d (filled s ys f) ≡ p → Answers (size d) p (h .tried)
-            → (h .tried .found && (ltb (h .tried .changed) radius || (eqb (cell (filled s ys f) k) (cell (filled s (replaced ys rs k) f) k) || not (eqb own (cell (filled s ys f) k)))))
+        go : (p : Answer) → bounded d (filled s ys f) ≡ p → Answers (size d) p t
+            → (t .found && (ltb (t .changed) radius || (eqb (cell (filled s ys f) k) (cell (filled s (replaced ys rs k) f) k) || not (eqb own (cell (filled s ys f) k)))))
             ≡ near p (filled s (replaced ys rs k) f)
         go _ e (failed g) = rw g
         go _ e (found {c} g w) =
@@ -85,7 +85,7 @@ module _ (d : Degree) (ys rs : List ℕ) (f k : ℕ) (ly : IsLine (size d) ys) (
             let l = filled-word s f ly in
             let q = D .sound l e in
             let b = filledCell (cell rs k) (fillingBit s (bitsFrom k f)) in
-            rw (g, H .tried .changed g ∙ ap (changedBy (filled s ys f)) e, is-own c w, now-cell D ys rs f k ly lr hk s, now-is D ys rs f k ly lr hk s)
+            rw (g, H .changed g ∙ ap (changedBy (filled s ys f)) e, is-own c w, now-cell D ys rs f k ly lr hk s, now-is D ys rs f k ly lr hk s)
             (sym (moves (distance (filled s ys f) c) (distance (set (filled s ys f) k b) c) (q .1) (l .small k) (new-lt D ys rs f k ly lr hk s) (w .cells .small k)
             (distance-set (filled s ys f) c k b (rw (l .long) hk) (rw (w .cells .long) hk))))
 

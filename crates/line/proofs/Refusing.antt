@@ -12,7 +12,7 @@ use lib.Seq.{drop-cons}
 use borrow.Author.Tests.{leb-true, eqb-true, eq-eqb, ne-eqb, not-false}
 use Rattle.laws.proofs.Tests.{and-true}
 use Rattle.degree.specs.declared.Degree.{Degree}
-use Rattle.degree.specs.declared.Degree.the-variants.{Four, Six}
+use Rattle.degree.specs.declared.Degree.the-variants.{Four, Six, Seven}
 use Rattle.degree.specs.declared.Named.{Named}
 use Rattle.degree.specs.declared.Named.the-variants.{Known, Unknown}
 use Rattle.degree.specs.Degree.{bits, size, named}
@@ -73,12 +73,13 @@ known-unknown e h = let z : _≡_ {A = ℕ} 0 1 = cc in omega arith
 module _ (degree : ℕ) where
   -- the number of the degree that it names is itself
   pub known-bits : (d : Degree) → named degree ≡ Known d → degree ≡ bits d
-  known-bits d e = go (eqb degree 4) (eqb degree 6) refl refl e
+  known-bits d e = go (eqb degree 4) (eqb degree 6) (eqb degree 7) refl refl refl e
     where
-      go : (p q : Bool) → eqb degree 4 ≡ p → eqb degree 6 ≡ q → cond p (Known Four) (cond q (Known Six) Unknown) ≡ Known d → degree ≡ bits d
-      go true q a b e = let h : Four ≡ d = cc in eqb-true degree 4 a ∙ ap bits h
-      go false true a b e = let h : Six ≡ d = cc in eqb-true degree 6 b ∙ ap bits h
-      go false false a b e = absurd (known-unknown e refl)
+      go : (p q r : Bool) → eqb degree 4 ≡ p → eqb degree 6 ≡ q → eqb degree 7 ≡ r → cond p (Known Four) (cond q (Known Six) (cond r (Known Seven) Unknown)) ≡ Known d → degree ≡ bits d
+      go true q r a b c e = let h : Four ≡ d = cc in eqb-true degree 4 a ∙ ap bits h
+      go false true r a b c e = let h : Six ≡ d = cc in eqb-true degree 6 b ∙ ap bits h
+      go false false true a b c e = let h : Seven ≡ d = cc in eqb-true degree 7 c ∙ ap bits h
+      go false false false a b c e = absurd (known-unknown e refl)
 
   -- it names one degree
   pub known-one : {d d′ : Degree} → named degree ≡ Known d → named degree ≡ Known d′ → d ≡ d′
@@ -94,6 +95,7 @@ module _ (degree : ℕ) where
 pub bits-named : (d : Degree) → named (bits d) ≡ Known d
 bits-named Four = refl
 bits-named Six = refl
+bits-named Seven = refl
 
 -- ---- the number of the first test that applies
 

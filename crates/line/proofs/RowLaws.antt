@@ -2,7 +2,7 @@
 -- Assumes nothing.
 use mathlib.Core.Path.{_≡_, refl, sym, ap, ap₂, _∙_, subst}
 use mathlib.Core.List.{List, [], _∷_}
-use Prim.Native.Nat.{ℕ, zero, suc, _*_, _%_, _≤_, _<_}
+use Prim.Native.Nat.{ℕ, zero, suc, _+_, _*_, _/_, _%_, _^_, _≤_, _<_}
 use native.Mathlib.Nat.{le-refl, le-of-suc-le-suc, not-suc-le-zero}
 use native.Mathlib.Omega.{arith}
 use lib.Bits.{bitOr, bitXor}
@@ -11,15 +11,15 @@ use lib.Seq.{ext-getD}
 use Rattle.laws.proofs.Bits.{half-bit, low-bit, bit-one, or-first, or-second}
 use Rattle.laws.proofs.Xor.{xor-eq}
 use Rattle.degree.specs.declared.Degree.{Degree}
-use Rattle.degree.specs.declared.Degree.the-variants.{Four, Six}
 use Rattle.field.specs.declared.syndrome.Syndrome.{Syndrome}
 use Rattle.degree.specs.Degree.{size, order}
 use Rattle.field.specs.Field.{power}
 use Rattle.field.proofs.Primitive.{primitive}
 use Rattle.laws.specs.Digits.{sumOver, ones, digits}
 use Rattle.field.specs.working.Checks.{IsSyndrome}
+use Rattle.field.specs.working.Places.{IsPlace}
 use Rattle.line.specs.declared.packed.Line.{Line}
-use Rattle.line.specs.working.Word.{value, width}
+use Rattle.words.specs.working.Word.{value, width}
 use Rattle.line.specs.Cells.{cell}
 use Rattle.line.specs.working.Packed.{IsLine, isOne, packBy, Packs, PacksWord}
 use Rattle.line.proofs.CellLaws.{Bits}
@@ -38,12 +38,12 @@ packed-digits (w ∷ ws) (suc m) (suc k) h l g =
     (ap (λ (x : ℕ). take m (digits k x)) (half-bit (packBy isOne ws) (isOne w)) ∙ packed-digits ws m k (λ i. h (suc i)) (le-of-suc-le-suc l) (le-of-suc-le-suc g))
 
 -- so for a word of n cells
-pub word-digits : {n : ℕ} {ws : List ℕ} {w : ℕ} (m : ℕ) → m ≤ n → PacksWord n ws w → take m (digits 64 w) ≡ take m ws
+pub word-digits : {n : ℕ} {ws : List ℕ} {w : ℕ} (m : ℕ) → m ≤ n → PacksWord n ws w → take m (digits width w) ≡ take m ws
 word-digits {ws} m h p =
-    rw (p .ones) (packed-digits ws m 64 (p .cells .small) (rw (p .cells .long) h) (rw (p .cells .long) (p .room)))
+    rw (p .ones) (packed-digits ws m width (p .cells .small) (rw (p .cells .long) h) (rw (p .cells .long) (p .room)))
 
 -- the check sums of a packed word are those of its cells
-pub word-sums : {d : Degree} {ws : List ℕ} {w : ℕ} {s : Syndrome} → PacksWord (size d) ws w → IsSyndrome d (digits 64 w) s → IsSyndrome d ws s
+pub word-sums : {d : Degree} {ws : List ℕ} {w : ℕ} {s : Syndrome} → PacksWord (size d) ws w → IsSyndrome d (digits width w) s → IsSyndrome d ws s
 word-sums {d} p q =
     let front = word-digits (order d) (omega arith) p in
     record {
@@ -52,6 +52,19 @@ word-sums {d} p q =
       parity = q .parity ∙ ap (λ (l : List ℕ). ones l % 2) (word-digits (size d) (le-refl (size d)) p);
     }
 
+-- and so is its place
+pub word-place : {d : Degree} {ws : List ℕ} {w r : ℕ} → PacksWord (size d) ws w → IsPlace d (digits width w) r → IsPlace d ws r
+word-place {d} p q =
+    let front = word-digits (order d) (omega arith) p in
+    record {
+      parity = q .parity ∙ ap (λ (l : List ℕ). ones l % 2) (word-digits (size d) (le-refl (size d)) p);
+      fits = q .fits ∙ rw front;
+    }
+
+-- a number from its lowest 64 digits and those above
+pub from-halves : {v low high : ℕ} → low ≡ v % 2 ^ 64 → high ≡ v / 2 ^ 64 → high * 2 ^ 64 + low ≡ v
+from-halves e f = omega arith
+
 -- a packed word says what its cells are
 pub word-packs-one : {n : ℕ} {cs ds : List ℕ} {v w : ℕ} → v ≡ w → PacksWord n cs v → PacksWord n ds w → cs ≡ ds
 word-packs-one {cs} {ds} e p q =
@@ -59,14 +72,13 @@ word-packs-one {cs} {ds} e p q =
 
 -- ---- n
 
--- a line has room in a machine word
+-- a line has room in a word
 pub size-room : (d : Degree) → size d ≤ width
 size-room d = primitive d .room
 
 -- a line is made of whole parts of eight cells
 pub size-eights : (d : Degree) → size d % 8 ≡ 0
-size-eights Four = refl
-size-eights Six = refl
+size-eights d = omega (arith, primitive d .bytes)
 
 -- what packing a row asks for
 pub packable : (d : Degree) {l : List ℕ} → IsLine (size d) l → (length l ≤ width) × (length l % 8 ≡ 0) × ((i : ℕ) → cell l i < 3)

@@ -25,7 +25,7 @@ use Rattle.line.specs.Decoding.{replaced, decoded, message}
 use Rattle.line.specs.working.Settled.{ifNear, settled}
 use Rattle.line.specs.Clauses.{reach, cost, clause}
 use Rattle.line.specs.working.Packed.{Packs}
-use Rattle.line.specs.working.Word.{value}
+use Rattle.words.specs.working.Word.{value}
 use Rattle.line.specs.working.Tries.{Answers, failed, found}
 use Rattle.line.specs.working.Fillings.{Based, triedOf, start}
 use Rattle.line.proofs.CellLaws.{erased-or-known}

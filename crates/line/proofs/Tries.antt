@@ -10,12 +10,10 @@ use lib.Dec.{eqb, leb}
 use Rattle.degree.specs.declared.Degree.{Degree}
 use Rattle.field.specs.declared.locate.Positions.{Positions}
 use Rattle.field.specs.declared.locate.Positions.the-variants.{Zero, One, Two, Unfit}
-use Rattle.field.specs.declared.syndrome.Syndrome.{Syndrome}
 use Rattle.degree.specs.Degree.{size, order}
 use Rattle.field.specs.Syndrome.{s1, s3, parity}
-use Rattle.field.specs.working.Checks.{IsSyndrome}
 use Rattle.field.specs.working.Fitting.{Fits}
-use Rattle.field.specs.working.Places.{positionsOf}
+use Rattle.field.specs.working.Places.{positionsOf, IsPlace}
 use Rattle.field.specs.working.Positions.{located, usable, Below}
 use Rattle.field.proofs.Primitive.{primitive}
 use Rattle.field.proofs.Locating.{one≢unfit, two≢unfit, located-fits, located-none, located-below, usable-below, usable-same}
@@ -23,7 +21,7 @@ use Rattle.line.specs.declared.bounded.Tried.{Tried}
 use Rattle.line.specs.Cells.{IsWord, flip}
 use Rattle.line.specs.Bounded.{bounded, changed}
 use Rattle.line.specs.working.Packed.{PacksWord}
-use Rattle.line.specs.working.Word.{value}
+use Rattle.words.specs.working.Word.{value}
 use Rattle.line.specs.working.Tries.{failed, found, mended, changes, Mends, Decodes}
 use Rattle.line.proofs.CellLaws.{distance-self}
 use Rattle.line.proofs.Flips.{flipped-far}
@@ -79,14 +77,14 @@ module _ (d : Degree) (ws : List ℕ) where
       go (suc (suc (suc (suc x)))) h y k f c q p e = absurd (omega arith)
 
 -- where a word is mended, the positions of its entry are cells: the first of one or two, and the second of two
-module _ (n e parity : ℕ) (small : parity < 2) (few : e / 4096 + (e / 4096 + parity) % 2 ≤ 2) (h : Below n (usable (eqb parity 0) (positionsOf e))) where
+module _ (n e parity : ℕ) (small : parity < 2) (few : e / 16384 + (e / 16384 + parity) % 2 ≤ 2) (h : Below n (usable (eqb parity 0) (positionsOf e))) where
   abbrev entry : ℕ → Positions
-  entry q = cond (eqb q 0) Zero (cond (eqb q 1) (One (e % 64)) (cond (eqb q 2) (Two (e % 64) (e / 64 % 64)) Unfit))
+  entry q = cond (eqb q 0) Zero (cond (eqb q 1) (One (e % 128)) (cond (eqb q 2) (Two (e % 128) (e / 128 % 128)) Unfit))
 
-  pub first-below : (e / 4096 + 1) / 2 % 2 ≡ 1 → e % 64 < n
-  first-below = go (e / 4096) parity small few h
+  pub first-below : (e / 16384 + 1) / 2 % 2 ≡ 1 → e % 128 < n
+  first-below = go (e / 16384) parity small few h
     where
-      go : (q p : ℕ) → p < 2 → q + (q + p) % 2 ≤ 2 → Below n (usable (eqb p 0) (entry q)) → (q + 1) / 2 % 2 ≡ 1 → e % 64 < n
+      go : (q p : ℕ) → p < 2 → q + (q + p) % 2 ≤ 2 → Below n (usable (eqb p 0) (entry q)) → (q + 1) / 2 % 2 ≡ 1 → e % 128 < n
       go zero p o l b z = absurd (omega arith)
       go (suc zero) zero o l b z = b
       go (suc zero) (suc zero) o l b z = b
@@ -95,10 +93,10 @@ module _ (n e parity : ℕ) (small : parity < 2) (few : e / 4096 + (e / 4096 + p
       go (suc (suc zero)) (suc p) o l b z = absurd (omega arith)
       go (suc (suc (suc q))) p o l b z = absurd (omega arith)
 
-  pub second-below : e / 4096 / 2 % 2 ≡ 1 → e / 64 % 64 < n
-  second-below = go (e / 4096) parity small few h
+  pub second-below : e / 16384 / 2 % 2 ≡ 1 → e / 128 % 128 < n
+  second-below = go (e / 16384) parity small few h
     where
-      go : (q p : ℕ) → p < 2 → q + (q + p) % 2 ≤ 2 → Below n (usable (eqb p 0) (entry q)) → q / 2 % 2 ≡ 1 → e / 64 % 64 < n
+      go : (q p : ℕ) → p < 2 → q + (q + p) % 2 ≤ 2 → Below n (usable (eqb p 0) (entry q)) → q / 2 % 2 ≡ 1 → e / 128 % 128 < n
       go zero p o l b z = absurd (omega arith)
       go (suc zero) p o l b z = absurd (omega arith)
       go (suc (suc zero)) zero o l b z = b .1
@@ -118,15 +116,15 @@ changes-is d ws l (Two i j) true f = let w = f two≢unfit .within in sym (flipp
 changes-is d ws l (Two i j) false f = refl
 changes-is d ws l Unfit even f = refl
 
-pub tried-bounded : (d : Degree) (e : ℕ) {ws : List ℕ} {w : ℕ} {t : Tried} {s : Syndrome} → PacksWord (size d) ws w → IsSyndrome d ws s
-    → usable (eqb (s .parity) 0) (positionsOf e) ≡ usable (eqb (s .parity) 0) (located d (s .s1) (s .s3))
-    → Mends d ws (positionsOf e) (eqb (s .parity) 0) t → Decodes d ws t
-tried-bounded d e {ws} {t} {s} q sums g a =
+pub tried-bounded : (d : Degree) (r : ℕ) {ws : List ℕ} {w : ℕ} {t : Tried} → PacksWord (size d) ws w → IsPlace d ws r
+    → Mends d ws (positionsOf (r % 65536)) (eqb (r / 65536) 0) t → Decodes d ws t
+tried-bounded d r {ws} {t} q place a =
+    let e = r % 65536 in
     let p = located d (s1 d ws) (s3 d ws) in
     let even = eqb (parity d ws) 0 in
     let fits = located-fits d (s1 d ws) (s3 d ws) in
-    let l : usable even (positionsOf e) ≡ usable even p = rw (sums .parity, sums .s1, sums .s3) at g in
-    let m : Mends d ws (positionsOf e) even t = rw (sums .parity) at a in
+    let l : usable even (positionsOf e) ≡ usable even p = rw (place .parity) at (place .fits) in
+    let m : Mends d ws (positionsOf e) even t = rw (place .parity) at a in
     let is : bounded d ws ≡ mended d ws p even = answer-mends d ws (q .cells) p fits (located-none d (s1 d ws) (s3 d ws)) in
     let found = usable-same (mended d ws) (λ i j. refl) even in
     let far = usable-same changes (λ i j. refl) even in

@@ -27,6 +27,7 @@ use Rattle.laws.proofs.Tests.{every, every-at, and-left, and-right}
 use Rattle.laws.proofs.Xor.{digit-lt, xor-one}
 use Rattle.degree.specs.declared.Degree.{Degree}
 use Rattle.degree.specs.Degree.{size, order}
+use Rattle.words.specs.working.Grid.{wordIn}
 use Rattle.line.specs.Cells.{IsWord}
 use Rattle.line.specs.working.Packed.{isOne, packBy, PacksWord}
 use Rattle.line.specs.Encoding.{checkSize, messageSize, sums, checksFor, checkCells, encodeLine}
@@ -50,9 +51,9 @@ module _ (d : Degree) where
       let c = digits (checkSize d) (checksFor d (sums d (checkSize d + a))) in
       (ones c + 1) % 2 * 2 ^ order d + (2 ^ a * 2 ^ checkSize d + pack c)
 
-  -- of the 64 entries the first k are the units, and the others are 0
+  -- the first k entries are the units
   unfoldable pub units? : List ℕ → Bool
-  units? t = every (λ a. eqb (getD t a 0) (unitWord a)) (messageSize d) && every (λ b. eqb (getD t (messageSize d + b) 0) 0) (64 - messageSize d)
+  units? t = every (λ a. eqb (wordIn t 0 a) (unitWord a)) (messageSize d)
 
   pack-one : (b : ℕ) → b < 2 → pack (b ∷ []) ≡ b
   unfolding sumOver
@@ -84,21 +85,9 @@ module _ (d : Degree) where
       sym (encode-word m (digits-length (messageSize d) (2 ^ a)) ∙ rw (parity, pack-digits (messageSize d) (2 ^ a) (pow-lt h), s))
 
   -- what a passed test says
-  pub units-rule : (t : List ℕ) → T (units? t) → length t ≡ 64 → Units d t
+  pub units-rule : (t : List ℕ) → T (units? t) → length t ≡ 256 → Units d t
   unfolding units?
-  units-rule t h l =
-      let k = messageSize d in
-      let first = and-left (every (λ a. eqb (getD t a 0) (unitWord a)) k) (every (λ b. eqb (getD t (k + b) 0) 0) (64 - k)) h in
-      let rest = and-right (every (λ a. eqb (getD t a 0) (unitWord a)) k) (every (λ b. eqb (getD t (k + b) 0) 0) (64 - k)) h in
-      record {
-        long = l;
-        at = λ a q. eqb→eq _ _ (every-at (λ a. eqb (getD t a 0) (unitWord a)) k first q) ∙ unit-word a q;
-        past = λ a q.
-            let e : k + (a - k) ≡ a = omega arith in
-            dite (decLt a 64)
-            (λ z. rw e at (eqb→eq (getD t (k + (a - k)) 0) 0 (every-at (λ b. eqb (getD t (k + b) 0) 0) (64 - k) rest {k = a - k} (omega arith))))
-            (λ z. List·getD-eq-default t 0 (omega arith));
-      }
+  units-rule t h l = record { long = l; at = λ a q. eqb→eq _ _ (every-at (λ a. eqb (wordIn t 0 a) (unitWord a)) (messageSize d) h q) ∙ unit-word a q }
 
   -- ---- an encoded line is linear in its message
 
@@ -140,7 +129,7 @@ module _ (d : Degree) where
 
   module _ (t : List ℕ) (U : Units d t) where
     -- bit i of an entry is the weight of the message cell in cell i
-    pub unit-bit : (i a : ℕ) (q : i < size d) → a < messageSize d → bitAt (getD t a 0) i ≡ summed d i q .weight a
+    pub unit-bit : (i a : ℕ) (q : i < size d) → a < messageSize d → bitAt (wordIn t 0 a) i ≡ summed d i q .weight a
     unit-bit i a q h =
         let e = encodeLine d (unitAt a) in
         ap (λ (x : ℕ). bitAt x i) (U .at a h)
@@ -149,7 +138,7 @@ module _ (d : Degree) where
         ∙ cell-digits i q (2 ^ a) ∙ digits-power (summed d i q .weight) (messageSize d) a h
 
     -- the sum of the entries at the ones of a message packs the encoded line
-    pub sum-packs : (m : List ℕ) → IsWord (messageSize d) m → PacksWord (size d) (encodeLine d m) (sumOver (λ a. getD t a 0) m)
+    pub sum-packs : (m : List ℕ) → IsWord (messageSize d) m → PacksWord (size d) (encodeLine d m) (sumOver (λ a. wordIn t 0 a) m)
     sum-packs m M =
         let l = M .long in
         let b : Bits m = M .small in
@@ -159,24 +148,24 @@ module _ (d : Degree) where
           room = size-le d refl;
           cells = line-codeword d m l b .word;
           ones =
-              sum-cong (λ a. getD t a 0) (λ a. word (2 ^ a)) m (λ a z. U .at a (rw l at z))
+              sum-cong (λ a. wordIn t 0 a) (λ a. word (2 ^ a)) m (λ a z. U .at a (rw l at z))
               ∙ sym (sum-map word (λ a. 2 ^ a) m word-adds) ∙ ap (λ (x : List ℕ). pack (encodeLine d x)) same ∙ sym (pack-packs (encodeLine d m));
         }
 
 -- ---- the sum, a cell of the message a turn
 
 -- one cell more: its unit is added where it holds 1
-pub sum-next : (t m : List ℕ) (a : ℕ) {sum next : ℕ} → sum ≡ sumOver (λ j. getD t j 0) (take a m) → next ≡ bitXor sum (cond (eqb (getD m a 0) 1) (getD t a 0) 0)
-    → next ≡ sumOver (λ j. getD t j 0) (take (a + 1) m)
+pub sum-next : (t m : List ℕ) (a : ℕ) {sum next : ℕ} → sum ≡ sumOver (λ j. wordIn t 0 j) (take a m) → next ≡ bitXor sum (cond (eqb (getD m a 0) 1) (wordIn t 0 a) 0)
+    → next ≡ sumOver (λ j. wordIn t 0 j) (take (a + 1) m)
 sum-next t m a {sum} e f =
     f
-    ∙ sym (ap (λ (x : ℕ). sumOver (λ j. getD t j 0) (take x m)) (add-one a) ∙ sum-more (λ j. getD t j 0) m a ∙ ap₂ bitXor (sym e) (picked (eqb (getD m a 0) 1)))
+    ∙ sym (ap (λ (x : ℕ). sumOver (λ j. wordIn t 0 j) (take x m)) (add-one a) ∙ sum-more (λ j. wordIn t 0 j) m a ∙ ap₂ bitXor (sym e) (picked (eqb (getD m a 0) 1)))
   where
-    picked : (b : Bool) → elim b [ true ↦ getD t a 0 | false ↦ 0 ] ≡ cond b (getD t a 0) 0
+    picked : (b : Bool) → elim b [ true ↦ wordIn t 0 a | false ↦ 0 ] ≡ cond b (wordIn t 0 a) 0
     picked true = refl
     picked false = refl
 
 -- after the last turn
-pub sum-encodes : (d : Degree) (t m : List ℕ) {sum a : ℕ} → Units d t → IsWord (messageSize d) m → sum ≡ sumOver (λ j. getD t j 0) (take a m) → length m ≤ a
+pub sum-encodes : (d : Degree) (t m : List ℕ) {sum a : ℕ} → Units d t → IsWord (messageSize d) m → sum ≡ sumOver (λ j. wordIn t 0 j) (take a m) → length m ≤ a
     → PacksWord (size d) (encodeLine d m) sum
 sum-encodes d t m {sum} {a} U M e h = rw (e, take-all a m h) (sum-packs d t U m M)

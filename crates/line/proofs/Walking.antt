@@ -1,7 +1,7 @@
 -- The walk over the cells of a mask, from the base line to all messages and the count.
 -- Assumes nothing.
 use mathlib.Core.Path.{_≡_, refl, sym, ap, _∙_, subst}
-use mathlib.Core.Bool.{Bool, true, false, not}
+use mathlib.Core.Bool.{Bool, true, false, not, cond}
 use mathlib.Core.Logic.{_≢_}
 use mathlib.Core.List.{List}
 use Prim.Native.Nat.{ℕ, _+_, _-_, _*_, _/_, _%_, _^_, _≤_, _<_}
@@ -20,14 +20,13 @@ use Rattle.laws.proofs.Masks.{lowest, lowest-below, sumMask, mask-turn, mask-al
 use Rattle.degree.specs.declared.Degree.{Degree}
 use Rattle.degree.specs.Degree.{size}
 use Rattle.line.specs.declared.packed.Line.{Line}
-use Rattle.line.specs.declared.clause.Base.{Base}
 use Rattle.line.specs.working.Packed.{IsLine, Packs}
-use Rattle.line.specs.Cells.{cell}
+use Rattle.line.specs.Cells.{cell, few}
 use Rattle.line.specs.Bounded.{bounded}
 use Rattle.line.specs.Decoding.{listTo, message, messages}
 use Rattle.line.specs.Clauses.{cost, clause, count}
-use Rattle.line.specs.working.Fillings.{Based, Masks, start}
-use Rattle.line.specs.working.Word.{width}
+use Rattle.line.specs.working.Fillings.{Masks, start}
+use Rattle.words.specs.working.Word.{width}
 use Rattle.line.proofs.LineLaw.{listTo-is, listTo-cell, messages-line}
 
 -- a message is a cell
@@ -52,17 +51,17 @@ module _ (d : Degree) (ys rs : List ℕ) (f : ℕ) where
     pub sum : c + sumMask t costs (size d) ≡ count (bounded d) ys rs f
 
   module _ {y r : Line} (p : Packs (size d) ys y) (q : Packs (size d) rs r) where
-    pub walk-start : {b : Base} {m : ℕ} → Based d ys rs f b → Masks d ys rs f m → Walk (b .own) (b .count) m
+    pub walk-start : {l : Line} {c m : ℕ} → Packs (size d) (start d ys rs f) l → c ≡ cond (few ys) 2 0 → Masks d ys rs f m → Walk l c m
     unfolding count
-    walk-start {b} {m} B M =
+    walk-start {m} own two M =
         record {
           small = M .small;
           cells = start d ys rs f;
-          packs = B .own;
+          packs = own;
           done = λ k hk z. M .rest k hk z .0;
           sum =
               let e : sumMask m costs (size d) ≡ sumTo costs (size d) = mask-all m costs (size d) (λ k hk z. M .rest k hk z .1) in
-              rw (p .cells .long, B .count, e) refl;
+              rw (p .cells .long, two, e) refl;
         }
 
     turn : {l z : Line} {c t v e : ℕ} → t ≢ 0 → t < 2 ^ width → Walk l c t
@@ -116,5 +115,5 @@ none-left {v} {t} e h = eqb-true v 0 (sym e ∙ not-false t h)
 
 -- two decodings a cell at most, for the cell taken and those that are left
 pub mask-next : (c e : ℕ) {t u k : ℕ} → t < 2 ^ width → t ≢ 0 → k < width → k ≡ trailingZeros width t → u ≡ bitAnd t (t - 1) → e ≤ c + 2
-    → c + 2 * sumMask t (λ i. 1) width ≤ 130 → e + 2 * sumMask u (λ i. 1) width ≤ 130
+    → c + 2 * sumMask t (λ i. 1) width ≤ 258 → e + 2 * sumMask u (λ i. 1) width ≤ 258
 mask-next c e {t} h z hk ek eu l b = rw eu (omega (arith, mask-turn width t (λ i. 1) width z h (rw (← ek) hk)))

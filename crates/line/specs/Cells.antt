@@ -2,7 +2,7 @@
 use mathlib.Core.Path.{_≡_}
 use mathlib.Core.Bool.{Bool, true, false, cond}
 use mathlib.Core.List.{List, [], _∷_}
-use Prim.Native.Nat.{ℕ, suc, _+_, _-_, _/_, _%_, _<_}
+use Prim.Native.Nat.{ℕ, suc, _+_, _-_, _*_, _/_, _%_, _^_, _<_}
 use lib.Dec.{eqb, ltb}
 use lib.ListN.{length, getD, set}
 pub use Rattle.laws.specs.Bits.{bit}
@@ -49,6 +49,10 @@ unfoldable pub distance : List ℕ → List ℕ → ℕ
 distance [] ws = 0
 distance (c ∷ cs) [] = 0
 distance (c ∷ cs) (w ∷ ws) = cond (isErased c) 0 (cond (eqb c w) 0 1) + distance cs ws
+
+-- a filling word as it is lent, in two numbers: document 02, W-212, "low word first"
+abbrev pub fillingWord : (low high : ℕ) → ℕ
+fillingWord low high = high * 2 ^ 64 + low
 
 -- the bit that a filling word has for cell 0: word one takes it as it is, word two its opposite
 abbrev pub fillingBit : Side → ℕ → ℕ

@@ -4,7 +4,7 @@ use Prim.Native.Nat.{ℕ, _+_, _-_, _*_, _%_}
 use lib.ListN.{getD}
 use Rattle.laws.specs.Digits.{sumOver, ones, digits}
 use Rattle.degree.specs.declared.Degree.{Degree}
-use Rattle.degree.specs.declared.Degree.the-variants.{Four, Six}
+use Rattle.degree.specs.declared.Degree.the-variants.{Four, Six, Seven}
 use Rattle.degree.specs.Degree.{bits, size, order}
 use Rattle.field.specs.Field.{power}
 
@@ -21,6 +21,8 @@ messageSize d = order d - checkSize d
 abbrev pub checkTable : Degree → List ℕ
 checkTable Four = 198 ∷ 93 ∷ 186 ∷ 165 ∷ 199 ∷ 242 ∷ 225 ∷ 95 ∷ []
 checkTable Six = 1894 ∷ 3788 ∷ 2209 ∷ 1147 ∷ 2294 ∷ 1237 ∷ 1895 ∷ 4034 ∷ 3969 ∷ 3790 ∷ 2749 ∷ 2619 ∷ []
+checkTable Seven =
+    8020 ∷ 16040 ∷ 15911 ∷ 16185 ∷ 15621 ∷ 14717 ∷ 12685 ∷ 8021 ∷ 6306 ∷ 11202 ∷ 16042 ∷ 12612 ∷ 5363 ∷ 15907 ∷ []
 
 module _ (d : Degree) where
   -- what cell i adds to the two check sums, in one number: s1 in the v lowest binary digits, s3 in the next v

@@ -44,7 +44,7 @@ given degree tests asked refused = unlessRefused tests (atDegree (named degree) 
 
 -- ---- the conditions
 
--- 1: degree not 4 or 6
+-- 1: degree not 4, 6 or 7
 abbrev pub unnamed : ℕ → Bool
 unnamed degree = atDegree (named degree) (λ d. false) true
 

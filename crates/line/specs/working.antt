@@ -8,4 +8,3 @@ pub mod Settled
 pub mod Tables
 pub mod Tries
 pub mod Units
-pub mod Word

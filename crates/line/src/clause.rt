@@ -4,8 +4,8 @@ use crate::packed::Line;
 use crate::packed::cell_at;
 use crate::packed::word_cell;
 use crate::side::Side;
-use crate::word::Word;
 use degree::Degree;
+use words::word::Word;
 ghost use mathlib.Core.Path.{_≡_};
 ghost use mathlib.Core.Bool.{_&&_, _||_, not, cond};
 ghost use mathlib.Core.List.{List};
@@ -16,7 +16,7 @@ ghost use Rattle.line.specs.working.Packed.{IsLine, PacksWord};
 ghost use Rattle.line.specs.Cells.{cell, filled, designedDistance, radius};
 ghost use Rattle.line.specs.Bounded.{bounded};
 ghost use Rattle.line.specs.Clauses.{firstFit, clause};
-ghost use Rattle.line.specs.working.Word.{value, width};
+ghost use Rattle.words.specs.working.Word.{value, width};
 ghost use Rattle.line.specs.working.Tries.{Answers};
 ghost use Rattle.line.specs.working.Fillings.{TrialOf, Sees, Based};
 
@@ -39,6 +39,13 @@ pub struct Trial {
     pub before: Word,
     pub channel: Word,
     pub tried: Tried,
+}
+
+// What both fillings of a line gave, and the decodings counted.
+pub struct Both {
+    pub one: Tried,
+    pub two: Tried,
+    pub count: u64,
 }
 
 // What a filling says at one cell.

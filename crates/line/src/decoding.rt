@@ -8,10 +8,10 @@ use crate::packed::count_erasures;
 use crate::packed::fill;
 use crate::packed::full;
 use crate::tables::LineTables;
-use crate::word::Word;
-use crate::word::same_word;
-use crate::word::zero_word;
 use degree::Degree;
+use words::word::Word;
+use words::word::same_word;
+use words::word::zero_word;
 ghost use mathlib.Core.Path.{_≡_};
 ghost use mathlib.Core.Bool.{false};
 ghost use mathlib.Core.List.{List};
@@ -22,7 +22,7 @@ ghost use Rattle.line.specs.Cells.{few, bit};
 ghost use Rattle.line.specs.Bounded.{Answer, bounded, orBack};
 ghost use Rattle.line.specs.Decoding.{choice, decode, decoded};
 ghost use Rattle.line.specs.working.Packed.{Packs};
-ghost use Rattle.line.specs.working.Word.{value};
+ghost use Rattle.words.specs.working.Word.{value};
 ghost use Rattle.line.specs.working.Tries.{Answers};
 
 // A line, and the decodings counted so far.

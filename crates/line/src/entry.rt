@@ -16,8 +16,9 @@ use crate::refusals::messages_test;
 use crate::row::update_row;
 use crate::tables::LINE_ENTRIES;
 use crate::tables::put_line_tables;
-use crate::word::of_number;
 use degree::Degree;
+use words::word::Word;
+use words::word::of_numbers;
 ghost use mathlib.Core.Path.{_≡_};
 ghost use mathlib.Core.Bool.{cond};
 ghost use mathlib.Core.List.{[]};
@@ -25,7 +26,8 @@ ghost use Prim.Native.Nat.{ℕ, _%_};
 ghost use lib.ListN.{length};
 ghost use Rattle.degree.specs.Degree.{size};
 ghost use Rattle.line.specs.working.Packed.{IsLine, Packs};
-ghost use Rattle.line.specs.Cells.{IsWord};
+ghost use Rattle.line.specs.Cells.{IsWord, fillingWord};
+ghost use Rattle.words.specs.working.Word.{value};
 ghost use Rattle.line.specs.Bounded.{Answer, bounded, orBack};
 ghost use Rattle.line.specs.Decoding.{decode, messages as messagesBy};
 ghost use Rattle.line.specs.Clauses.{count as countBy};
@@ -92,29 +94,29 @@ fn bounded_taken(d: Degree, word: &mut [u8]) -> WordAnswer
     word_answer(t)
 }
 
-fn decode_taken(d: Degree, cells: &mut [u8], filling: u64) -> LineAnswer
+fn decode_taken(d: Degree, cells: &mut [u8], filling: Word) -> LineAnswer
     requires { ⌜ IsLine (size d) (now cells) ⌝ }
-    ensures { λ r. ⌜ Answered 0 (decode (bounded d) (now (cells .entry)) filling) (now (cells .entry)) (now (cells .exit)) (lineNumbers r) ⌝ }
+    ensures { λ r. ⌜ Answered 0 (decode (bounded d) (now (cells .entry)) (value filling)) (now (cells .entry)) (now (cells .exit)) (lineNumbers r) ⌝ }
 {
     let mut tables = [0u16; LINE_ENTRIES];
     put_line_tables(d, &mut tables);
     let y = pack(cells);
-    let t = try_packed(d, y, of_number(filling), 0, &tables);
+    let t = try_packed(d, y, filling, 0, &tables);
     let tried = t.tried;
     put_found(cells, y, tried);
     line_answer(tried)
 }
 
 // The messages are written, the count is handed back.
-fn send_taken(d: Degree, incoming: &[u8], channel: &[u8], filling: u64, messages: &mut [u8]) -> u64
+fn send_taken(d: Degree, incoming: &[u8], channel: &[u8], filling: Word, messages: &mut [u8]) -> u64
     requires { ⌜ IsLine (size d) (now incoming) × IsLine (size d) (now channel) × (length (now messages) ≡ size d) ⌝ }
-    ensures { λ r. ⌜ (r ≡ countBy (bounded d) (now (incoming .entry)) (now (channel .entry)) filling) × (now (messages .exit) ≡ messagesBy (bounded d) (now (incoming .entry)) (now (channel .entry)) filling) ⌝ }
+    ensures { λ r. ⌜ (r ≡ countBy (bounded d) (now (incoming .entry)) (now (channel .entry)) (value filling)) × (now (messages .exit) ≡ messagesBy (bounded d) (now (incoming .entry)) (now (channel .entry)) (value filling)) ⌝ }
 {
     let mut tables = [0u16; LINE_ENTRIES];
     put_line_tables(d, &mut tables);
     let y = pack(incoming);
     let r = pack(channel);
-    let sent = messages_of(d, y, r, of_number(filling), &tables);
+    let sent = messages_of(d, y, r, filling, &tables);
     unpack(sent.line, messages);
     sent.count
 }
@@ -132,13 +134,13 @@ pub fn bounded_distance(degree: u64, word: &mut [u8]) -> WordAnswer
     }
 }
 
-// Line decoding, in place.
-pub fn decode_line(degree: u64, cells: &mut [u8], filling: u64) -> LineAnswer
-    ensures { λ r. ⌜ DecodeLineDone degree filling (now (cells .entry)) [] (now (cells .exit)) r ⌝ }
+// Line decoding, in place, with a filling word of two numbers.
+pub fn decode_line(degree: u64, cells: &mut [u8], filling_low: u64, filling_high: u64) -> LineAnswer
+    ensures { λ r. ⌜ DecodeLineDone degree (fillingWord «filling_low» «filling_high») (now (cells .entry)) [] (now (cells .exit)) r ⌝ }
 {
     let call = line_test(degree, cells, 2);
     match call {
-        Call::Taken(d) => decode_taken(d, cells, filling),
+        Call::Taken(d) => decode_taken(d, cells, of_numbers(filling_low, filling_high)),
         Call::Refused(why) => LineAnswer::Refused(why),
     }
 }
@@ -148,10 +150,11 @@ pub fn line_messages(
     degree: u64,
     incoming: &[u8],
     channel: &[u8],
-    filling: u64,
+    filling_low: u64,
+    filling_high: u64,
     messages: &mut [u8],
 ) -> MessagesAnswer
-    ensures { λ r. ⌜ MessagesDone degree (now (incoming .entry)) (now (channel .entry)) filling (now (messages .entry)) [] (now (messages .exit)) r ⌝ }
+    ensures { λ r. ⌜ MessagesDone degree (now (incoming .entry)) (now (channel .entry)) (fillingWord «filling_low» «filling_high») (now (messages .entry)) [] (now (messages .exit)) r ⌝ }
 {
     let call = messages_test(degree, incoming, channel, messages);
     match call {
@@ -159,7 +162,7 @@ pub fn line_messages(
             d,
             incoming,
             channel,
-            filling,
+            of_numbers(filling_low, filling_high),
             messages,
         )),
         Call::Refused(why) => MessagesAnswer::Refused(why),

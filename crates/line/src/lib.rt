@@ -1,6 +1,5 @@
 // One line: packed in words, encoded, decoded within a distance and with erasures, and its outgoing messages.
 mod side; // which of the two filled words is meant
-pub mod word; // a packed word; no other module looks inside
 pub mod packed; // a line packed in two words; no other module looks inside
 pub mod row; // a lent row beside its packed line
 pub mod tables; // the tables that decoding reads, made once and lent

@@ -2,6 +2,7 @@
 use crate::bounded::Tried;
 use crate::bounded::counted;
 use crate::clause::Base;
+use crate::clause::Both;
 use crate::clause::Clause;
 use crate::clause::Trial;
 use crate::clause::clause_at;
@@ -17,22 +18,23 @@ use crate::packed::count_erasures;
 use crate::packed::differing;
 use crate::packed::erased_of;
 use crate::packed::fill;
+use crate::packed::full;
 use crate::packed::known_only_in;
 use crate::packed::put;
 use crate::packed::word_of;
 use crate::side::Side;
 use crate::tables::LineTables;
-use crate::word::Word;
-use crate::word::and_words;
-use crate::word::is_zero;
-use crate::word::lowest;
-use crate::word::or_words;
-use crate::word::rest;
-use crate::word::same_word;
-use crate::word::without;
-use crate::word::xor_words;
-use crate::word::zero_word;
 use degree::Degree;
+use words::word::Word;
+use words::word::and_words;
+use words::word::is_zero;
+use words::word::lowest;
+use words::word::or_words;
+use words::word::rest;
+use words::word::same_word;
+use words::word::without;
+use words::word::xor_words;
+use words::word::zero_word;
 ghost use mathlib.Core.Path.{_≡_};
 ghost use mathlib.Core.Bool.{true, false, _&&_};
 ghost use mathlib.Core.List.{List};
@@ -47,9 +49,9 @@ ghost use Rattle.line.specs.Bounded.{Answer, bounded, orBack};
 ghost use Rattle.line.specs.Decoding.{replaced, message, messages, decoded};
 ghost use Rattle.line.specs.working.Settled.{ifNear, instead, settled};
 ghost use Rattle.line.specs.Clauses.{cost, clause, count};
-ghost use Rattle.line.specs.working.Word.{value, width};
+ghost use Rattle.words.specs.working.Word.{value, width};
 ghost use Rattle.line.specs.working.Tries.{Answers};
-ghost use Rattle.line.specs.working.Fillings.{TrialOf, Based, Masks, stays, oneCodeword, quiet, triedOf};
+ghost use Rattle.line.specs.working.Fillings.{TrialOf, BothOf, Based, Masks, start, stays, oneCodeword, quiet, triedOf};
 
 // A message, and the decodings counted so far.
 pub struct Settled {
@@ -181,65 +183,68 @@ fn message_at(d: Degree, k: u32, b: Base, count: u64, tables: &LineTables) -> Se
 
 // ---- a line
 
-fn no_trial() -> Trial {
-    let none = zero_word();
-    let tried = nothing_found();
-    Trial {
-        before: none,
-        channel: none,
-        tried,
+// Both fillings decoded, where the erasures are few.
+fn both_tried(d: Degree, y: Line, filling: Word, erased: u32, tables: &LineTables) -> Both
+    requires { ⌜ TablesOf d (now tables) ⌝ }
+    ensures { λ t. ⌜ (t .count ≤ 2) × ((ys : List ℕ) → Packs (size d) ys y → erased ≡ erasures ys → BothOf d ys (value filling) t) ⌝ }
+{
+    if erased < Line::DISTANCE {
+        let words = fill(y, filling);
+        let one = counted(d, words[0], 0, tables);
+        let two = counted(d, words[1], one.count, tables);
+        let first = one.tried;
+        let second = two.tried;
+        Both {
+            one: first,
+            two: second,
+            count: two.count,
+        }
+    } else {
+        let first = nothing_found();
+        let second = nothing_found();
+        Both {
+            one: first,
+            two: second,
+            count: 0,
+        }
     }
 }
 
-// Both fillings decoded.
-fn few_base(d: Degree, y: Line, r: Line, filling: Word, erased: u32, tables: &LineTables) -> Base
-    requires { ⌜ TablesOf d (now tables) ⌝ }
-    ensures { λ b. ⌜ (b .count ≡ 2) × ((ys rs : List ℕ) → Packs (size d) ys y → Packs (size d) rs r → erased ≡ erasures ys → few ys ≡ true → Based d ys rs (value filling) b) ⌝ }
+// The line that the messages start from: the line's own decoding, or with many erasures the channel line.
+fn start_line(d: Degree, y: Line, r: Line, erased: u32, t: Both) -> Line
+    ensures { λ l. ⌜ ((ys rs : List ℕ) (f : ℕ) → Packs (size d) ys y → Packs (size d) rs r → erased ≡ erasures ys → BothOf d ys f t → Packs (size d) (start d ys rs f) l) ⌝ }
+{
+    if erased < Line::DISTANCE {
+        or_back(y, choose(y, t.one, t.two))
+    } else {
+        r
+    }
+}
+
+fn base_of(d: Degree, y: Line, r: Line, filling: Word, erased: u32, t: Both) -> Base
+    ensures { λ b. ⌜ (b .count ≡ t .count) × ((ys rs : List ℕ) → Packs (size d) ys y → Packs (size d) rs r → erased ≡ erasures ys → BothOf d ys (value filling) t → Based d ys rs (value filling) b) ⌝ }
 {
     let words = fill(y, filling);
     let channel = fill(r, filling);
-    let one = counted(d, words[0], 0, tables);
-    let two = counted(d, words[1], one.count, tables);
-    let first = one.tried;
-    let second = two.tried;
+    let one = t.one;
+    let two = t.two;
     Base {
         incoming: y,
         channel: r,
         filling,
         erased,
-        own: or_back(y, choose(y, first, second)),
+        own: start_line(d, y, r, erased, t),
         one: Trial {
             before: words[0],
             channel: channel[0],
-            tried: first,
+            tried: one,
         },
         two: Trial {
             before: words[1],
             channel: channel[1],
-            tried: second,
+            tried: two,
         },
-        count: two.count,
-    }
-}
-
-fn base_of(d: Degree, y: Line, r: Line, filling: Word, tables: &LineTables) -> Base
-    requires { ⌜ TablesOf d (now tables) ⌝ }
-    ensures { λ b. ⌜ (b .count ≤ 2) × ((ys rs : List ℕ) → Packs (size d) ys y → Packs (size d) rs r → Based d ys rs (value filling) b) ⌝ }
-{
-    let erased = count_erasures(y);
-    if erased < Line::DISTANCE {
-        few_base(d, y, r, filling, erased, tables)
-    } else {
-        Base {
-            incoming: y,
-            channel: r,
-            filling,
-            erased,
-            own: r,
-            one: no_trial(),
-            two: no_trial(),
-            count: 0,
-        }
+        count: t.count,
     }
 }
 
@@ -269,11 +274,9 @@ fn crowding(r: Line, erased: u32) -> Word
 }
 
 // Did both fillings decode to one codeword?
-fn one_codeword(b: Base) -> bool
-    ensures { λ r. ⌜ r ≡ oneCodeword b ⌝ }
+fn one_codeword(one: Tried, two: Tried) -> bool
+    ensures { λ r. ⌜ r ≡ oneCodeword one two ⌝ }
 {
-    let one = b.one.tried;
-    let two = b.two.tried;
     (one.found & two.found) & same_word(one.word, two.word)
 }
 
@@ -297,7 +300,7 @@ fn left_by_masks(d: Degree, b: Base) -> Word
     ensures { λ m. ⌜ ((ys rs : List ℕ) (f : ℕ) → Based d ys rs f b → Masks d ys rs f (value m)) ⌝ }
 {
     let all = mask_of(d, b.incoming, b.channel, b.erased);
-    if (b.erased < Line::DISTANCE) & one_codeword(b) {
+    if (b.erased < Line::DISTANCE) & one_codeword(b.one.tried, b.two.tried) {
         let crowded = crowding(b.channel, b.erased);
         and_words(
             all,
@@ -309,36 +312,24 @@ fn left_by_masks(d: Degree, b: Base) -> Word
 }
 
 // Did both fillings decode to one codeword that no change of one cell takes out of reach, with no cell crowded? It is then the message
-// of every cell; in a decode most lines are so.
-fn is_quiet(b: Base) -> bool
-    ensures { λ r. ⌜ r ≡ quiet b ⌝ }
+// of every cell; in a decode most lines are so, and nothing else is looked at.
+fn is_quiet(erased: u32, t: Both) -> bool
+    ensures { λ r. ⌜ r ≡ quiet erased t ⌝ }
 {
-    let one = b.one.tried;
-    let two = b.two.tried;
+    let one = t.one;
+    let two = t.two;
     let near = (one.changed < Line::RADIUS) & (two.changed < Line::RADIUS);
-    ((b.erased < Line::DISTANCE - 1) & near) & one_codeword(b)
+    ((erased < Line::DISTANCE - 1) & near) & one_codeword(one, two)
 }
 
-// The cells that are settled one by one.
-fn left_of(d: Degree, b: Base) -> Word
-    ensures { λ m. ⌜ ((ys rs : List ℕ) (f : ℕ) → Based d ys rs f b → Masks d ys rs f (value m)) ⌝ }
+// The cells that the masks leave, settled one by one.
+fn settle_left(d: Degree, b: Base, tables: &LineTables) -> LineTally
+    requires { ⌜ (b .count ≤ 2) × TablesOf d (now tables) ⌝ }
+    ensures { λ s. ⌜ (s .count ≤ 258) × ((ys rs : List ℕ) (f : ℕ) → Based d ys rs f b → Packs (size d) (messages (bounded d) ys rs f) (s .line) × (s .count ≡ count (bounded d) ys rs f)) ⌝ }
 {
-    if is_quiet(b) {
-        zero_word()
-    } else {
-        left_by_masks(d, b)
-    }
-}
-
-// All messages of incoming line y with channel line r.
-pub fn messages_of(d: Degree, y: Line, r: Line, filling: Word, tables: &LineTables) -> LineTally
-    requires { ⌜ TablesOf d (now tables) ⌝ }
-    ensures { λ s. ⌜ (s .count ≤ 130) × ((ys rs : List ℕ) → Packs (size d) ys y → Packs (size d) rs r → Packs (size d) (messages (bounded d) ys rs (value filling)) (s .line) × (s .count ≡ count (bounded d) ys rs (value filling))) ⌝ }
-{
-    let b = base_of(d, y, r, filling, tables);
     let mut line = b.own;
     let mut count = b.count;
-    let mut left = left_of(d, b);
+    let mut left = left_by_masks(d, b);
     while !is_zero(left) {
         let k = lowest(left);
         let m = message_at(d, k, b, count, tables);
@@ -347,4 +338,23 @@ pub fn messages_of(d: Degree, y: Line, r: Line, filling: Word, tables: &LineTabl
         left = rest(left);
     }
     LineTally { line, count }
+}
+
+// All messages of incoming line y with channel line r.
+pub fn messages_of(d: Degree, y: Line, r: Line, filling: Word, tables: &LineTables) -> LineTally
+    requires { ⌜ TablesOf d (now tables) ⌝ }
+    ensures { λ s. ⌜ (s .count ≤ 258) × ((ys rs : List ℕ) → Packs (size d) ys y → Packs (size d) rs r → Packs (size d) (messages (bounded d) ys rs (value filling)) (s .line) × (s .count ≡ count (bounded d) ys rs (value filling))) ⌝ }
+{
+    let erased = count_erasures(y);
+    let t = both_tried(d, y, filling, erased, tables);
+    if is_quiet(erased, t) {
+        let one = t.one;
+        let line = full(one.word);
+        LineTally {
+            line,
+            count: t.count,
+        }
+    } else {
+        settle_left(d, base_of(d, y, r, filling, erased, t), tables)
+    }
 }

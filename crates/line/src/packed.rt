@@ -1,22 +1,20 @@
 // A line packed in words. Only this module knows how.
 use crate::side::Side;
-use crate::word::Word;
-use crate::word::and_words;
-use crate::word::bit_at;
-use crate::word::count_bits;
-use crate::word::is_zero;
-use crate::word::not_word;
-use crate::word::of_number;
-use crate::word::or_words;
-use crate::word::put_bit;
-use crate::word::same_word;
-use crate::word::to_number;
-use crate::word::without;
-use crate::word::xor_words;
-use crate::word::zero_word;
 use degree::Degree;
 use words::pairs::gather_pair;
 use words::pairs::spread_pair;
+use words::word::Word;
+use words::word::and_words;
+use words::word::bit_at;
+use words::word::count_bits;
+use words::word::is_zero;
+use words::word::not_word;
+use words::word::or_words;
+use words::word::put_bit;
+use words::word::same_word;
+use words::word::without;
+use words::word::xor_words;
+use words::word::zero_word;
 ghost use mathlib.Core.Path.{_≡_};
 ghost use mathlib.Core.List.{List};
 ghost use Prim.Native.Nat.{ℕ, _*_, _<_, _≤_, _%_};
@@ -24,7 +22,7 @@ ghost use lib.Bits.{bitAnd, bitOr, bitXor};
 ghost use lib.ListN.{length, set};
 ghost use Rattle.degree.specs.Degree.{size};
 ghost use Rattle.line.specs.Cells.{cell, erasures, distance, filled};
-ghost use Rattle.line.specs.working.Word.{value, width};
+ghost use Rattle.words.specs.working.Word.{value, width};
 ghost use Rattle.line.specs.Encoding.{checkSize, messageSize};
 ghost use Rattle.line.specs.working.Packed.{Packs, PacksWord, sideWord};
 
@@ -36,7 +34,7 @@ pub struct Line {
 
 impl Line {
     // Of each degree: n, the cells of a line, and k, its message cells. The radius and the designed distance are the same for
-    // both.
+    // all.
     pub const N_FOUR: usize = 16;
 
     pub const K_FOUR: usize = 7;
@@ -44,6 +42,10 @@ impl Line {
     pub const N_SIX: usize = 64;
 
     pub const K_SIX: usize = 51;
+
+    pub const N_SEVEN: usize = 128;
+
+    pub const K_SEVEN: usize = 113;
 
     pub const RADIUS: u64 = 2;
 
@@ -56,6 +58,7 @@ impl Line {
         match d {
             Degree::Four => Line::N_FOUR,
             Degree::Six => Line::N_SIX,
+            Degree::Seven => Line::N_SEVEN,
         }
     }
 
@@ -66,6 +69,7 @@ impl Line {
         match d {
             Degree::Four => Line::K_FOUR,
             Degree::Six => Line::K_SIX,
+            Degree::Seven => Line::K_SEVEN,
         }
     }
 
@@ -76,6 +80,7 @@ impl Line {
         match d {
             Degree::Four => 8,
             Degree::Six => 12,
+            Degree::Seven => 14,
         }
     }
 
@@ -204,15 +209,14 @@ pub fn pack(cells: &[u8]) -> Line
     ensures { λ r. ⌜ Packs (length (now (cells .entry))) (now (cells .entry)) r ⌝ }
 {
     let bits = gather_pair(cells);
-    Line {
-        ones: of_number(bits.low),
-        erased: of_number(bits.high),
-    }
+    let ones = bits.first;
+    let erased = bits.second;
+    Line { ones, erased }
 }
 
 pub fn unpack(l: Line, cells: &mut [u8])
     requires { ⌜ length (now cells) % 8 ≡ 0 ⌝ }
     ensures { λ _. ⌜ (length (now (cells .exit)) ≡ length (now (cells .entry))) × ((cs : List ℕ) → Packs (length (now (cells .entry))) cs l → now (cells .exit) ≡ cs) ⌝ }
 {
-    spread_pair(to_number(l.ones), to_number(l.erased), cells)
+    spread_pair(l.ones, l.erased, cells)
 }

@@ -2,7 +2,7 @@
 use crate::packed::Line;
 use crate::packed::differing;
 use crate::packed::unpack;
-use crate::word::is_zero;
+use words::word::is_zero;
 ghost use mathlib.Core.Path.{_≡_};
 ghost use Prim.Native.Nat.{_%_};
 ghost use lib.ListN.{length};

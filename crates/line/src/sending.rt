@@ -4,13 +4,13 @@ use crate::messages::messages_of;
 use crate::packed::Line;
 use crate::row::update_row;
 use crate::tables::LineTables;
-use crate::word::Word;
 use degree::Degree;
+use words::word::Word;
 ghost use Prim.Native.Nat.{_%_};
 ghost use mathlib.Core.Path.{_≡_};
 ghost use lib.ListN.{length};
 ghost use Rattle.line.specs.working.Tables.{TablesOf};
-ghost use Rattle.line.specs.working.Word.{value};
+ghost use Rattle.words.specs.working.Word.{value};
 ghost use Rattle.line.specs.working.SentRows.{SentRow};
 
 // A lent row, which y holds packed, replaced by its messages, which are handed back packed.

@@ -2,10 +2,12 @@
 use degree::Degree;
 use field::tables::FIELD_ENTRIES;
 use field::tables::FieldTables;
+use field::tables::order_in;
 use field::tables::put_tables;
 ghost use mathlib.Core.Path.{_≡_};
 ghost use Prim.Native.Nat.{ℕ};
 ghost use lib.ListN.{getD};
+ghost use Rattle.degree.specs.Degree.{order};
 ghost use Rattle.line.specs.working.Tables.{TablesOf};
 
 // What they hold is known to the field part alone.
@@ -19,4 +21,12 @@ pub fn put_line_tables(d: Degree, tables: &mut LineTables)
     ensures { λ _. ⌜ TablesOf d (now (tables .exit)) ⌝ }
 {
     put_tables(d, tables)
+}
+
+// The last cell of a line, n - 1. It is read off the tables: a choice among the degrees would be made for each word that is decoded.
+pub fn last_cell(d: Degree, tables: &LineTables) -> usize
+    requires { ⌜ TablesOf d (now tables) ⌝ }
+    ensures { λ r. ⌜ r ≡ order d ⌝ }
+{
+    order_in(d, tables)
 }

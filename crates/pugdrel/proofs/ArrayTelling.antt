@@ -18,7 +18,7 @@ use Rattle.line.specs.Refusals.{refusal, atDegree, given, misfit}
 use Rattle.line.proofs.Refusing.{some-none, none-applies}
 use Rattle.array.specs.declared.entry.DecodeAnswer.{DecodeAnswer}
 use Rattle.array.specs.Arrays.{line}
-use Rattle.array.specs.Plain.{plain, plainCount, closed}
+use Rattle.array.specs.Plain.{fillings, plain, plainCount, closed}
 use Rattle.array.specs.Refusals.{rowTests, decodeTests}
 use Rattle.array.specs.Entries.{DecodeDone, decodeNumbers, rowRefusal, rowPart}
 use Rattle.array.proofs.ArrayLaws.{length-line}
@@ -39,11 +39,11 @@ module _ (degree l : ℕ) (r w s : List ℕ) where
   unfolding decodeTests
   decode-alike = record {
     right = refl;
-    wrong = rw (no-array degree, or-true (misfit (length s) (2 ^ degree * 2 ^ degree)), or-true (misfit (length w) (2 * l * 2 ^ degree)), or-true (misfit (length r) (2 ^ degree * 2 ^ degree)));
+    wrong = rw (no-array degree, or-true (misfit (length s) (2 ^ degree * 2 ^ degree)), or-true (misfit (length w) (4 * l * 2 ^ degree)), or-true (misfit (length r) (2 ^ degree * 2 ^ degree)));
     refused = λ z.
         let n = none-applies (Tests r (true ∷ [])) tt z in
         let k = 2 ^ degree in
-        true≢false (some-none (misfit (length r) (k * k) ∷ misfit (length w) (2 * l * k) ∷ misfit (length s) (k * k) ∷ true ∷ []) (n .1 .1 .0) .1 .1 .1 .0);
+        true≢false (some-none (misfit (length r) (k * k) ∷ misfit (length w) (4 * l * k) ∷ misfit (length s) (k * k) ∷ true ∷ []) (n .1 .1 .0) .1 .1 .1 .0);
   }
 
   pub decode-told : {part after old new : List ℕ} {a : DecodeAnswer} {number : ℕ} → part ≡ cond (fits 3 old) r [] → DecodeDone degree l part w s [] after a
@@ -56,11 +56,11 @@ module _ (degree l : ℕ) (r w s : List ℕ) where
         answer = a;
         done = record {
           refusal = number-is;
-          count = done′ .count ∙ same-given Tests r decode-alike fit degree (λ p d. plainCount d l p p w) 0;
+          count = done′ .count ∙ same-given Tests r decode-alike fit degree (λ p d. plainCount d l p p (fillings w)) 0;
           most = done′ .most;
-          erasures = done′ .erasures ∙ same-given Tests r decode-alike fit degree (λ p d. erasures (plain d l p p w)) 0;
-          closed = done′ .closed ∙ same-given Tests r decode-alike fit degree (λ p d. closed d (plain d l p p w)) false;
-          cells = done′ .cells ∙ same-given Tests r decode-alike fit degree (λ p d. plain d l p p w) s;
+          erasures = done′ .erasures ∙ same-given Tests r decode-alike fit degree (λ p d. erasures (plain d l p p (fillings w))) 0;
+          closed = done′ .closed ∙ same-given Tests r decode-alike fit degree (λ p d. closed d (plain d l p p (fillings w))) false;
+          cells = done′ .cells ∙ same-given Tests r decode-alike fit degree (λ p d. plain d l p p (fillings w)) s;
           sent = λ d s′ z k S near.
               let whole : DecodeDone degree l r w s [] after a = rw (taken-fits Tests r decode-alike fit (sym number-is ∙ z)) at done′ in
               whole .sent d s′ z k S near;
@@ -91,7 +91,7 @@ module _ (degree : ℕ) (part : List ℕ) (index : ℕ) where
   Asked = rowTests degree part index []
 
   abbrev Placed : (found : List ℕ) (start long : ℕ) → Type 0
-  Placed found start long = (index * length found ≡ start) × (length found ≡ long) × (index * length found ≤ 4096)
+  Placed found start long = (index * length found ≡ start) × (length found ≡ long) × (index * length found ≤ 16384)
 
   row-placed : Placed (rowPart degree part index) (given degree Asked (λ d. index * size d) 0) (given degree Asked size 0)
   unfolding given
@@ -112,7 +112,7 @@ module _ (degree : ℕ) (part : List ℕ) (index : ℕ) where
       go true e Unknown f = none
       go false e v f = none
 
-  pub row-start : {found : List ℕ} → found ≡ rowPart degree part index → index * length found ≤ 4096
+  pub row-start : {found : List ℕ} → found ≡ rowPart degree part index → index * length found ≤ 16384
   row-start e = rw e (row-placed .2)
 
   pub row-told : {cells found old new : List ℕ} {number : ℕ} → part ≡ cond (fits 2 old) cells [] → number ≡ rowRefusal degree part index

@@ -16,8 +16,8 @@ use Rattle.pugdrel.specs.Reports.{told}
 use Rattle.pugdrel.specs.working.Numbers.{fits}
 use Rattle.pugdrel.specs.SheetCall.{sheetCall, SheetTold}
 
-pub output-room : (output report : List ℕ) → (fits 4244 output && fits 1 report) ≡ true → 4244 ≤ length output
-output-room output report e = omega (arith, eqb-true (length output) 4244 (and-true (fits 4244 output) (fits 1 report) e .0))
+pub output-room : (output report : List ℕ) → (fits 16596 output && fits 1 report) ≡ true → 16596 ≤ length output
+output-room output report e = omega (arith, eqb-true (length output) 16596 (and-true (fits 16596 output) (fits 1 report) e .0))
 
 -- the test applies where a length is wrong
 applies : (a b : Bool) → _≡_ {A = ℕ} (cond (not a || (not b || false)) 3 0) (cond (a && b) 0 3)
@@ -26,11 +26,11 @@ applies true false = refl
 applies false b = refl
 
 module _ (input before old : List ℕ) where
-  sheet-number : refusal (sheetCall before old) ≡ cond (fits 4244 before && fits 1 old) 0 3
+  sheet-number : refusal (sheetCall before old) ≡ cond (fits 16596 before && fits 1 old) 0 3
   unfolding sheetCall
-  sheet-number = applies (fits 4244 before) (fits 1 old)
+  sheet-number = applies (fits 16596 before) (fits 1 old)
 
-  pub sheet-taken : {after new : List ℕ} {n : ℕ} → (fits 4244 before && fits 1 old) ≡ true → Wrote before 0 (printed input) after n → new ≡ told (n ∷ []) old
+  pub sheet-taken : {after new : List ℕ} {n : ℕ} → (fits 16596 before && fits 1 old) ≡ true → Wrote before 0 (printed input) after n → new ≡ told (n ∷ []) old
       → SheetTold input before after old new 0
   sheet-taken {n} e wrote t =
       let long : n ≡ length (printed input) = omega (arith, wrote .place) in
@@ -41,7 +41,7 @@ module _ (input before old : List ℕ) where
         report = t ∙ ap (λ (k : ℕ). told (k ∷ []) old) (long ∙ sym (unless-taken (sheetCall before old) (length (printed input)) 0 zero));
       }
 
-  pub sheet-refused : {new : List ℕ} → (fits 4244 before && fits 1 old) ≡ false → new ≡ told (0 ∷ []) old → SheetTold input before before old new 3
+  pub sheet-refused : {new : List ℕ} → (fits 16596 before && fits 1 old) ≡ false → new ≡ told (0 ∷ []) old → SheetTold input before before old new 3
   sheet-refused e t =
       let three : refusal (sheetCall before old) ≡ 3 = sheet-number ∙ rw e in
       record {

@@ -12,6 +12,7 @@ use line::refusals::number_of;
 ghost use mathlib.Core.Path.{_≡_};
 ghost use mathlib.Core.List.{[], _∷_};
 ghost use Rattle.laws.specs.Bits.{bit};
+ghost use Rattle.line.specs.Cells.{fillingWord};
 ghost use Rattle.line.specs.Entries.{wordNumbers, lineNumbers, messagesNumbers};
 ghost use Rattle.pugdrel.specs.Reports.{told};
 ghost use Rattle.pugdrel.specs.LineCalls.{BoundedTold, DecodeLineTold, MessagesTold};
@@ -114,13 +115,14 @@ pub extern "C" fn pugdrel_bounded_distance(degree: u64, word: &mut [u8], report:
 pub extern "C" fn pugdrel_decode_line(
     degree: u64,
     cells: &mut [u8],
-    filling: u64,
+    filling_low: u64,
+    filling_high: u64,
     report: &mut [u64],
 ) -> u64
-    ensures { λ r. ⌜ DecodeLineTold degree filling (now (cells .entry)) (now (cells .exit)) (now (report .entry)) (now (report .exit)) r ⌝ }
+    ensures { λ r. ⌜ DecodeLineTold degree (fillingWord «filling_low» «filling_high») (now (cells .entry)) (now (cells .exit)) (now (report .entry)) (now (report .exit)) r ⌝ }
 {
     let end = lent(report.len() == 1, cells.len());
-    let answer = decode_line(degree, &mut cells[..end], filling);
+    let answer = decode_line(degree, &mut cells[..end], filling_low, filling_high);
     tell_found(answer, report)
 }
 
@@ -130,14 +132,22 @@ pub extern "C" fn pugdrel_messages(
     degree: u64,
     incoming: &[u8],
     channel: &[u8],
-    filling: u64,
+    filling_low: u64,
+    filling_high: u64,
     messages: &mut [u8],
     report: &mut [u64],
 ) -> u64
-    ensures { λ r. ⌜ MessagesTold degree (now (incoming .entry)) (now (channel .entry)) filling (now (messages .entry)) (now (messages .exit)) (now (report .entry)) (now (report .exit)) r ⌝ }
+    ensures { λ r. ⌜ MessagesTold degree (now (incoming .entry)) (now (channel .entry)) (fillingWord «filling_low» «filling_high») (now (messages .entry)) (now (messages .exit)) (now (report .entry)) (now (report .exit)) r ⌝ }
 {
     let end = lent(report.len() == 1, incoming.len());
-    let answer = line_messages(degree, &incoming[..end], channel, filling, messages);
+    let answer = line_messages(
+        degree,
+        &incoming[..end],
+        channel,
+        filling_low,
+        filling_high,
+        messages,
+    );
     let numbers = [messages_count(answer)];
     tell(&numbers, report);
     messages_refusal(answer)

@@ -9,7 +9,7 @@ ghost use Rattle.pugdrel.specs.SheetCall.{SheetTold};
 pub extern "C" fn pugdrel_sheet(input: &[u8], output: &mut [u8], report: &mut [u64]) -> u64
     ensures { λ r. ⌜ SheetTold (now (input .entry)) (now (output .entry)) (now (output .exit)) (now (report .entry)) (now (report .exit)) r ⌝ }
 {
-    if (output.len() == 4244) & (report.len() == 1) {
+    if (output.len() == 16596) & (report.len() == 1) {
         let long = text_into(input, output);
         let numbers = [long as u64];
         tell(&numbers, report);

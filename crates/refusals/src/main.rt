@@ -10,6 +10,8 @@ use line::entry::MessagesAnswer;
 use line::entry::WordAnswer;
 use line::refusals::number_of;
 use second::arrays::area_of;
+use second::codes::cells_of;
+use second::codes::code_of;
 use second::codewords::Weights;
 use second::codewords::weights_of;
 use second::encoding::message_area;
@@ -26,23 +28,17 @@ use second::tallies::OWN;
 use second::tallies::ROW;
 use second::tallies::Totals;
 use second::tallies::note;
+use second::tallies::room_of;
 use second::tallies::same;
 use second::tallies::say;
 use second::tallies::tick_if;
 ghost use Prim.Native.Nat.{_≤_, _<_};
 
-// n, the cells of a line.
-fn cells_of(degree: u64) -> usize
-    ensures { λ r. ⌜ (16 ≤ r) × (r ≤ 64) ⌝ }
-{
-    if degree == 4 { 16 } else { 64 }
-}
-
 // A call is given by one number, whose digits choose the degree, the iterations, the lengths of up to three slices, the row, and
 // the cell that is spoilt in the first and in the second slice. Digit 0 is always right. How many more values than it each of the eight
 // digits has, the lowest first, for each entry:
 const MORE: [usize; 7] = [
-    0o02022233, // decode: received, filling words, cells
+    0o02022233, // decode: received, filling numbers, cells
     0o02020203, // encode: message, none, cells
     0o02020203, // extract: cells, none, message
     0o02300203, // row: cells
@@ -65,12 +61,17 @@ fn digits_of(entry: usize, t: usize) -> [usize; 8]
     digits
 }
 
-const DEGREES: [u64; 4] = [4, 6, 5, 0];
+// Two lots of four degrees, whose calls are counted apart, and where they begin.
+const DEGREES: [u64; 8] = [4, 6, 5, 0, 7, 8, 3, 0xFFFFFFFFFFFFFFFF];
+
+const LOWER: usize = 0;
+
+const HIGHER: usize = 4;
 
 const ITERATIONS: [u64; 4] = [1, 20, 0, 21];
 
-// The kinds of the three slices of each entry, the first lowest; another kind than these is filling words. Then the cells of the first slice,
-// and what it is spoilt with.
+// The kinds of the three slices of each entry, the first lowest; another kind than these is filling numbers. Then the cells of the first
+// slice, and what it is spoilt with.
 const LINE: usize = 0;
 
 const ARRAY: usize = 1;
@@ -84,8 +85,8 @@ const CELL: [u8; 7] = [0, 1, 2, 2, 0, 0, 2];
 const SPOILT_CELL: [u8; 7] = [3, 2, 3, 3, 2, 3, 3];
 
 fn right_length(kind: usize, n: usize, iterations: u64) -> usize
-    requires { ⌜ (0 < n) × (n ≤ 64) ⌝ }
-    ensures { λ r. ⌜ (0 < r) × (r ≤ 4096) ⌝ }
+    requires { ⌜ (15 < n) × (n ≤ 128) ⌝ }
+    ensures { λ r. ⌜ (0 < r) × (r ≤ 16384) ⌝ }
 {
     if kind == LINE {
         n
@@ -94,22 +95,27 @@ fn right_length(kind: usize, n: usize, iterations: u64) -> usize
     } else if kind == MESSAGE {
         message_area(n)
     } else if iterations == 20 {
-        40 * n
+        80 * n
     } else {
-        2 * n
+        4 * n
     }
 }
 
-// The length of one of the slices: the right one, one less, or one more.
+// Half as many filling numbers, which is one for a word and not two.
+const HALF: usize = 3;
+
+// The length of one of the slices: the right one, one less, one more, or half of it.
 fn length_of(entry: usize, slot: usize, digit: usize, n: usize, iterations: u64) -> usize
-    requires { ⌜ (entry < 7) × (slot < 3) × (0 < n) × (n ≤ 64) ⌝ }
-    ensures { λ r. ⌜ r ≤ 4097 ⌝ }
+    requires { ⌜ (entry < 7) × (slot < 3) × (15 < n) × (n ≤ 128) ⌝ }
+    ensures { λ r. ⌜ r ≤ 16385 ⌝ }
 {
     let right = right_length((SLICES[entry] >> (3 * slot)) % 8, n, iterations);
     if digit == 0 {
         right
     } else if digit == 1 {
         right - 1
+    } else if digit == HALF {
+        right / 2
     } else {
         right + 1
     }
@@ -132,7 +138,7 @@ fn index_by(digit: usize, n: usize) -> usize
 
 // The number of the first test that fails; 0 where none does.
 fn wanted_number(digits: [usize; 8], degree: u64, iterations: u64) -> u64 {
-    if (degree != 4) & (degree != 6) {
+    if (degree != 4) & (degree != 6) & (degree != 7) {
         1
     } else if (iterations == 0) | (20 < iterations) {
         2
@@ -146,13 +152,13 @@ fn wanted_number(digits: [usize; 8], degree: u64, iterations: u64) -> u64 {
 }
 
 // Room for the longest slice.
-type Room = [u8; 4097];
+type Room = [u8; 16385];
 
 // The cells before a call: all are one cell, but the first or the last is spoilt where the digit says so.
 fn prepared(long: usize, cell: u8, digit: usize, spoilt: u8) -> Room
-    requires { ⌜ long ≤ 4097 ⌝ }
+    requires { ⌜ long ≤ 16385 ⌝ }
 {
-    let mut room = [cell; 4097];
+    let mut room = [cell; 16385];
     if digit == 1 {
         room[0] = spoilt;
     } else if digit == 2 {
@@ -191,7 +197,7 @@ fn line_number(answer: LineAnswer) -> u64 {
 }
 
 fn messages_number(degree: u64, incoming: &[u8], channel: &[u8], out: &mut [u8]) -> u64 {
-    let answer = line::entry::line_messages(degree, incoming, channel, 0, out);
+    let answer = line::entry::line_messages(degree, incoming, channel, 0, 0, out);
     match answer {
         MessagesAnswer::Refused(why) => number_of(why),
         MessagesAnswer::Written(_) => 0,
@@ -236,7 +242,7 @@ fn given_number(
     } else if entry == BOUNDED_DISTANCE {
         word_number(line::entry::bounded_distance(degree, one))
     } else {
-        line_number(line::entry::decode_line(degree, one, 0))
+        line_number(line::entry::decode_line(degree, one, 0, 0))
     }
 }
 
@@ -260,9 +266,9 @@ fn call(entry: usize, digits: [usize; 8], degree: u64, iterations: u64) -> CallR
     let index = index_by(digits[5], n);
     let before = prepared(one_long, CELL[entry], digits[6], SPOILT_CELL[entry]);
     let other = prepared(other_long, 2, digits[7], 255);
-    let filling = [0u64; 4097];
+    let filling = [0u64; 16385];
     let mut one = before;
-    let blank = [7u8; 4097];
+    let blank = [7u8; 16385];
     let mut third = blank;
     let number = given_number(
         entry,
@@ -282,12 +288,9 @@ fn call(entry: usize, digits: [usize; 8], degree: u64, iterations: u64) -> CallR
 }
 
 // One call, and what is to be given.
-fn test_call(entry: usize, t: usize, tally: &mut Totals)
+fn note_call(entry: usize, digits: [usize; 8], degree: u64, iterations: u64, tally: &mut Totals)
     requires { ⌜ entry < 7 ⌝ }
 {
-    let digits = digits_of(entry, t);
-    let degree = DEGREES[digits[0] % 4];
-    let iterations = ITERATIONS[digits[1] % 4];
     let wanted = wanted_number(digits, degree, iterations);
     let given = call(entry, digits, degree, iterations);
     let agree = (wanted == given.number) & (given.kept | (wanted == 0));
@@ -295,27 +298,77 @@ fn test_call(entry: usize, t: usize, tally: &mut Totals)
     tick_if(tally, OWN + (wanted % 8) as usize, true);
 }
 
-// All calls of an entry.
-fn test_refusals(entry: usize, many: usize, tally: &mut Totals)
-    requires { ⌜ entry < 7 ⌝ }
+// The call of a number.
+fn test_call(entry: usize, lot: usize, t: usize, tally: &mut Totals)
+    requires { ⌜ (entry < 7) × (lot ≤ 4) ⌝ }
+{
+    let digits = digits_of(entry, t);
+    let degree = DEGREES[lot + digits[0] % 4];
+    let iterations = ITERATIONS[digits[1] % 4];
+    note_call(entry, digits, degree, iterations, tally);
+}
+
+// All calls of an entry with a lot of degrees.
+fn test_refusals(entry: usize, lot: usize, many: usize, tally: &mut Totals)
+    requires { ⌜ (entry < 7) × (lot ≤ 4) ⌝ }
 {
     for t in 0..many {
-        test_call(entry, t, tally);
+        test_call(entry, lot, t, tally);
     }
 }
 
-// All calls of an entry, with the numbers of those that are to be refused.
-fn run_refusals(entry: usize, many: usize, name: &[u8])
-    requires { ⌜ entry < 7 ⌝ }
+// A line that begins with what was tried, and has how many are to be taken and to be refused with each number.
+fn say_totals(beginning: &[u8], tally: &Totals) {
+    say(beginning, tally, 0);
+    say(
+        b", # agree, # differ, sum #; # taken, # refused as 1, # as 2, # as 3, # as 4\n",
+        tally,
+        1,
+    );
+}
+
+fn run_refusals(entry: usize, lot: usize, many: usize, beginning: &[u8])
+    requires { ⌜ (entry < 7) × (lot ≤ 4) ⌝ }
 {
     let mut tally = [0u64; 32];
-    test_refusals(entry, many, &mut tally);
-    say(name, &tally, 0);
-    say(
-        b": # calls, # agree, # differ, sum #; # taken, # refused as 1, # as 2, # as 3, # as 4\n",
+    test_refusals(entry, lot, many, &mut tally);
+    say_totals(beginning, &tally);
+}
+
+// Calls of decode at each degree, with 1 and with 20 iterations.
+fn test_halves(tally: &mut Totals) {
+    let degrees = [4, 6, 7];
+    for t in 0..6 {
+        let digits = [0, 0, 0, HALF, 0, 0, 0, 0];
+        note_call(DECODE, digits, degrees[t % 3], ITERATIONS[t / 3], tally);
+    }
+}
+
+fn run_halves() {
+    let mut tally = [0u64; 32];
+    test_halves(&mut tally);
+    say_totals(
+        b"calls of decode with half the filling numbers: # calls",
         &tally,
-        0,
     );
+}
+
+// All entries.
+fn run_lot(lot: usize)
+    requires { ⌜ lot ≤ 4 ⌝ }
+{
+    run_refusals(DECODE, lot, 1296, b"calls of decode: # calls");
+    run_refusals(ENCODE, lot, 108, b"calls of encode: # calls");
+    run_refusals(EXTRACT, lot, 108, b"calls of extract: # calls");
+    run_refusals(ROW, lot, 144, b"calls of row: # calls");
+    run_refusals(
+        BOUNDED_DISTANCE,
+        lot,
+        36,
+        b"calls of bounded_distance: # calls",
+    );
+    run_refusals(DECODE_LINE, lot, 36, b"calls of decode_line: # calls");
+    run_refusals(LINE_MESSAGES, lot, 972, b"calls of line_messages: # calls");
 }
 
 // ---- texts: good inputs of `sheet`, and inputs that are spoilt in each way
@@ -323,9 +376,14 @@ fn run_refusals(entry: usize, many: usize, name: &[u8])
 // Kinds 0 to 12 are spoilt, 13 to 15 are good.
 const SPOILT: usize = 16;
 
-// Another first line: degree 5, a carriage return, the other degree, and the degree with a zero before it.
+// The digit of the degree.
+fn digit_of(n: usize) -> u8 {
+    (48 + code_of(n).degree % 8) as u8
+}
+
+// Another first line: degree 5, a carriage return, another degree, and the degree with a zero before it.
 fn other_first_line(kind: usize, n: usize, input: &mut Text) {
-    let digit = if n == 16 { 52 } else { 54 };
+    let digit = digit_of(n);
     input[0] = if kind == 5 {
         53
     } else if kind == 7 {
@@ -348,7 +406,7 @@ fn other_first_line(kind: usize, n: usize, input: &mut Text) {
 // Another byte in the lines: a newline, mostly in a cell's place; a cell in a newline's place; a character that is no cell, mostly in a
 // cell's place; and a space in a newline's place with it.
 fn other_byte(kind: usize, n: usize, p: usize, input: &mut Text)
-    requires { ⌜ (n ≤ 64) × (p < 272) ⌝ }
+    requires { ⌜ (n ≤ 128) × (p < 272) ⌝ }
 {
     input[2 + p] = if kind == 8 {
         10
@@ -368,8 +426,8 @@ fn other_byte(kind: usize, n: usize, p: usize, input: &mut Text)
 
 // Another length: empty, one byte, the first line alone, a byte less, a byte more.
 fn other_length(kind: usize, long: usize) -> usize
-    requires { ⌜ (2 ≤ long) × (long ≤ 4162) ⌝ }
-    ensures { λ r. ⌜ r ≤ 4163 ⌝ }
+    requires { ⌜ (2 ≤ long) × (long ≤ 16514) ⌝ }
+    ensures { λ r. ⌜ r ≤ 16515 ⌝ }
 {
     if kind < 3 {
         kind
@@ -382,31 +440,33 @@ fn other_length(kind: usize, long: usize) -> usize
     }
 }
 
-fn note_text(tally: &mut Totals, own: &Text, given: &[u8; 4244], same_length: bool) {
-    note(tally, own, given, 4244, same_length, 0);
+// What is printed of an array: four numbers of 21 bytes, and the lines.
+fn note_text(n: usize, tally: &mut Totals, own: &Text, given: &[u8; 16596], same_length: bool) {
+    let room = room_of(n);
+    note(tally, own, given, 84 + area_of(room) + room, same_length, 0);
     // the refusal number is the first character
     tick_if(tally, OWN + (given[0] % 8) as usize, true);
 }
 
 // The first bytes of a room.
 fn test_text(n: usize, weights: &Weights, room: Text, long: usize, tally: &mut Totals)
-    requires { ⌜ (0 < n) × (n ≤ 64) × (long ≤ 4300) ⌝ }
+    requires { ⌜ (0 < n) × (n ≤ 128) × (long ≤ 16700) ⌝ }
 {
     let input = &room[..long];
-    let mut own = [0u8; 4300];
-    let mut given = [0u8; 4244];
+    let mut own = [0u8; 16700];
+    let mut given = [0u8; 16596];
     let own_long = sheet_text(n, weights, input, &mut own);
     let given_long = text::sheet::sheet_text(input, &mut given);
-    note_text(tally, &own, &given, own_long == given_long);
+    note_text(n, tally, &own, &given, own_long == given_long);
 }
 
 // The text of one array, spoilt or not; the bytes past its end are newlines.
 fn test_sheet(n: usize, weights: &Weights, trial: usize, state: &mut u64, tally: &mut Totals)
-    requires { ⌜ (13 < n) × (n ≤ 64) ⌝ }
+    requires { ⌜ (15 < n) × (n ≤ 128) ⌝ }
 {
     let kind = trial % SPOILT;
-    let mut cells = [0u8; 4096];
-    let mut input = [10u8; 4300];
+    let mut cells = [0u8; 16384];
+    let mut input = [10u8; 16700];
     make_sent(n, state, &mut cells);
     damage_array(n, trial % KINDS, state, &mut cells);
     put_lines(n, &cells, 2, &mut input);
@@ -418,11 +478,26 @@ fn test_sheet(n: usize, weights: &Weights, trial: usize, state: &mut u64, tally:
 }
 
 fn test_sheets(n: usize, weights: &Weights, many: usize, tally: &mut Totals)
-    requires { ⌜ (13 < n) × (n ≤ 64) ⌝ }
+    requires { ⌜ (15 < n) × (n ≤ 128) ⌝ }
 {
     let mut state: u64 = 362436069;
     for trial in 0..many {
         test_sheet(n, weights, trial, &mut state, tally);
+    }
+}
+
+// The text of one array, with each digit as its first line.
+fn test_first_lines(degree: u64, tally: &mut Totals) {
+    let n = cells_of(degree);
+    let weights = weights_of(n);
+    let mut state: u64 = 362436069;
+    let mut cells = [0u8; 16384];
+    let mut input = [10u8; 16700];
+    make_sent(n, &mut state, &mut cells);
+    put_lines(n, &cells, 2, &mut input);
+    for digit in 48..58 {
+        input[0] = digit;
+        test_text(n, &weights, input, 2 + area_of(n) + n, tally);
     }
 }
 
@@ -431,21 +506,23 @@ fn run_sheets(degree: u64, many: usize) {
     let weights = weights_of(n);
     let mut tally = [0u64; 32];
     test_sheets(n, &weights, many, &mut tally);
-    say(
-        b"sheet: # texts, # agree, # differ, sum #; # taken, # refused as 1, # as 2, # as 3, # as 4\n",
-        &tally,
-        0,
-    );
+    say_totals(b"sheet: # texts", &tally);
+}
+
+fn run_first_lines() {
+    let mut tally = [0u64; 32];
+    test_first_lines(4, &mut tally);
+    test_first_lines(6, &mut tally);
+    test_first_lines(7, &mut tally);
+    say_totals(b"first lines of sheet: # texts", &tally);
 }
 
 fn main() {
-    run_refusals(DECODE, 1296, b"calls of decode");
-    run_refusals(ENCODE, 108, b"calls of encode");
-    run_refusals(EXTRACT, 108, b"calls of extract");
-    run_refusals(ROW, 144, b"calls of row");
-    run_refusals(BOUNDED_DISTANCE, 36, b"calls of bounded_distance");
-    run_refusals(DECODE_LINE, 36, b"calls of decode_line");
-    run_refusals(LINE_MESSAGES, 972, b"calls of line_messages");
+    run_lot(LOWER);
     run_sheets(4, 1530);
     run_sheets(6, 255);
+    run_lot(HIGHER);
+    run_halves();
+    run_sheets(7, 51);
+    run_first_lines();
 }

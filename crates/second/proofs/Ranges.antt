@@ -47,7 +47,7 @@ below-written p g (suc k) b m h l = below-set (written p g k m) (p k) (g k) b (b
 pub below-taken : (n i b : ℕ) (cells : List ℕ) → 0 < b → Below b cells → Below b (takenLine n i cells)
 unfolding takenLine
 below-taken n i b cells z h =
-    below-written (λ j. j) (λ j. getD cells (placeOf n i j) 0) n b (replicate 64 0) (λ j. h (placeOf n i j)) (below-zeros 64 b z)
+    below-written (λ j. j) (λ j. getD cells (placeOf n i j) 0) n b (replicate 128 0) (λ j. h (placeOf n i j)) (below-zeros 128 b z)
 
 -- a line put
 pub below-with : (n i b : ℕ) (line cells : List ℕ) → Below b line → Below b cells → Below b (withLine n i line cells)

@@ -3,6 +3,7 @@
 use crate::codewords::Line;
 use crate::codewords::Weights;
 use crate::codewords::syndrome;
+use crate::lines::FillingWord;
 use crate::lines::messages;
 use crate::lines::one_if;
 use crate::lines::unsure;
@@ -15,29 +16,30 @@ ghost use Rattle.second.specs.working.Loops.{Below};
 ghost use Rattle.second.specs.working.Arrays.{placeOf, takenLine, withLine, badLines, unsureIn};
 
 // The cells of an array: the first n times n count, and the others are 0.
-pub type Cells = [u8; 4096];
+pub type Cells = [u8; 16384];
 
 // How many they are.
 pub fn area_of(n: usize) -> usize
-    ensures { λ r. ⌜ (256 ≤ r) × (r ≤ 4096) ⌝ }
+    requires { ⌜ (0 < n) × (n ≤ 128) ⌝ }
+    ensures { λ r. ⌜ (r ≡ n * n) × (0 < r) × (r ≤ 16384) ⌝ }
 {
-    if n == 16 { 256 } else { 4096 }
+    n * n
 }
 
 // The place of cell j of line i.
 fn place(n: usize, i: usize, j: usize) -> usize
-    requires { ⌜ (n ≤ 64) × (i < n + n) × (j < n) ⌝ }
-    ensures { λ r. ⌜ (r ≡ placeOf n i j) × (r < 4096) ⌝ }
+    requires { ⌜ (n ≤ 128) × (i < n + n) × (j < n) ⌝ }
+    ensures { λ r. ⌜ (r ≡ placeOf n i j) × (r < 16384) ⌝ }
 {
     if i < n { i * n + j } else { j * n + (i - n) }
 }
 
 // Line i of an array.
 pub fn take_line(n: usize, i: usize, cells: &Cells) -> Line
-    requires { ⌜ (n ≤ 64) × (i < n + n) ⌝ }
+    requires { ⌜ (n ≤ 128) × (i < n + n) ⌝ }
     ensures { λ r. ⌜ r ≡ takenLine n i (now (cells .entry)) ⌝ }
 {
-    let mut line = [0u8; 64];
+    let mut line = [0u8; 128];
     for j in 0..n {
         line[j] = cells[place(n, i, j)];
     }
@@ -45,7 +47,7 @@ pub fn take_line(n: usize, i: usize, cells: &Cells) -> Line
 }
 
 pub fn put_line(n: usize, i: usize, line: Line, cells: &mut Cells)
-    requires { ⌜ (n ≤ 64) × (i < n + n) ⌝ }
+    requires { ⌜ (n ≤ 128) × (i < n + n) ⌝ }
     ensures { λ _. ⌜ now (cells .exit) ≡ withLine n i line (now (cells .entry)) ⌝ }
 {
     for j in 0..n {
@@ -59,12 +61,12 @@ fn renew_line(
     weights: &Weights,
     i: usize,
     received: &Cells,
-    filling: u64,
+    filling: FillingWord,
     cells: &mut Cells,
     tally: &mut Totals,
 ) -> u64
-    requires { ⌜ (n ≤ 64) × (i < n + n) ⌝ }
-    ensures { λ r. ⌜ (r ≤ 130) × (Below 3 (now (received .entry)) → Below 3 (now (cells .entry)) → Below 3 (now (cells .exit))) ⌝ }
+    requires { ⌜ (n ≤ 128) × (i < n + n) ⌝ }
+    ensures { λ r. ⌜ (r ≤ 258) × (Below 3 (now (received .entry)) → Below 3 (now (cells .entry)) → Below 3 (now (cells .exit))) ⌝ }
 {
     let incoming = take_line(n, i, cells);
     let channel = take_line(n, i, received);
@@ -74,6 +76,19 @@ fn renew_line(
     sent.count
 }
 
+// The filling words of a decoding, two numbers each: 4 × L × n numbers count, at most 4 × 20 × 128.
+pub type FillingNumbers = [u64; 10240];
+
+// Word w of them.
+fn word_at(filling: &FillingNumbers, w: usize) -> FillingWord
+    requires { ⌜ w < 5120 ⌝ }
+{
+    FillingWord {
+        low: filling[2 * w],
+        high: filling[2 * w + 1],
+    }
+}
+
 // The plain decoding of what the receiver gave, which stands in `cells` too; gives the count. The filling words are in order of halves
 // and then of lines, so each of the first `many` serves the next line: rows, then columns, and again. The lines of a half share no cell,
 // so each stands as it was before the half until its turn.
@@ -81,18 +96,19 @@ pub fn decode(
     n: usize,
     weights: &Weights,
     received: &Cells,
-    filling: &[u64; 2560],
+    filling: &FillingNumbers,
     many: usize,
     cells: &mut Cells,
     tally: &mut Totals,
 ) -> u64
-    requires { ⌜ (0 < n) × (n ≤ 64) × (many ≤ 2560) ⌝ }
-    ensures { λ r. ⌜ (r ≤ 130 * many) × (Below 3 (now (received .entry)) → Below 3 (now (cells .entry)) → Below 3 (now (cells .exit))) ⌝ }
+    requires { ⌜ (0 < n) × (n ≤ 128) × (many ≤ 5120) ⌝ }
+    ensures { λ r. ⌜ (r ≤ 258 * many) × (Below 3 (now (received .entry)) → Below 3 (now (cells .entry)) → Below 3 (now (cells .exit))) ⌝ }
 {
     let lines = n + n;
     let mut sum: u64 = 0;
     for w in 0..many {
-        sum += renew_line(n, weights, w % lines, received, filling[w], cells, tally);
+        let word = word_at(filling, w);
+        sum += renew_line(n, weights, w % lines, received, word, cells, tally);
     }
     sum
 }
@@ -101,7 +117,7 @@ pub fn decode(
 
 // How many of the n lines from `first` on are no codewords, an unsure cell read as 0: the rows from line 0 on, the columns from line n on.
 fn bad_lines(n: usize, weights: &Weights, first: usize, cells: &Cells) -> u64
-    requires { ⌜ (n ≤ 64) × (first ≤ n) ⌝ }
+    requires { ⌜ (n ≤ 128) × (first ≤ n) ⌝ }
     ensures { λ r. ⌜ (r ≡ badLines n first (now (weights .entry)) (now (cells .entry))) × (r ≤ n) ⌝ }
 {
     let mut bad: u64 = 0;
@@ -113,8 +129,8 @@ fn bad_lines(n: usize, weights: &Weights, first: usize, cells: &Cells) -> u64
 }
 
 fn unsure_in(n: usize, cells: &Cells) -> u64
-    requires { ⌜ n ≤ 64 ⌝ }
-    ensures { λ r. ⌜ (r ≡ unsureIn n (now (cells .entry))) × (r ≤ 64 * n) ⌝ }
+    requires { ⌜ n ≤ 128 ⌝ }
+    ensures { λ r. ⌜ (r ≡ unsureIn n (now (cells .entry))) × (r ≤ 128 * n) ⌝ }
 {
     let mut many: u64 = 0;
     for i in 0..n {
@@ -131,7 +147,7 @@ pub struct Faults {
 }
 
 pub fn faults_in(n: usize, weights: &Weights, cells: &Cells) -> Faults
-    requires { ⌜ n ≤ 64 ⌝ }
+    requires { ⌜ n ≤ 128 ⌝ }
     ensures { λ r. ⌜ (r .rows ≡ badLines n 0 (now (weights .entry)) (now (cells .entry))) × (r .columns ≡ badLines n n (now (weights .entry)) (now (cells .entry))) × (r .unsure ≡ unsureIn n (now (cells .entry))) ⌝ }
 {
     let rows = bad_lines(n, weights, 0, cells);

@@ -1,7 +1,8 @@
 // Full words: what a codeword is, by its definition, and bounded-distance decoding by trying flips.
 //
-// The three facts of a codeword stand side by side in one number, the syndrome: the sum of α^i in bits 0 to 5, the sum of
-// α^(3i) in bits 6 to 11, and in bit 12 whether the number of ones is odd. Each cell has a weight, which is what a one there adds.
+// The three facts of a codeword stand side by side in one number, the syndrome: the sum of α^i in bits 0 to 6, the sum of
+// α^(3i) in bits 7 to 13, and in bit 14 whether the number of ones is odd. Each cell has a weight, which is what a one there adds.
+use crate::codes::code_of;
 ghost use Prim.Native.Nat.{_≤_, _<_, _-_};
 ghost use mathlib.Core.Path.{_≡_};
 ghost use mathlib.Core.Bool.{false, cond};
@@ -12,28 +13,28 @@ ghost use Rattle.second.specs.working.Loops.{Below, written};
 ghost use Rattle.second.specs.working.Codes.{timesAlpha, powerOf, weightOf, syndromeOf};
 
 // The first n of its cells count, and the others are 0.
-pub type Line = [u8; 64];
+pub type Line = [u8; 128];
 
-pub type Weights = [usize; 64];
+pub type Weights = [usize; 128];
 
-// x times α. Bit i is the coefficient of α^i, so every bit moves up by one; where α^v comes up, which is bit n, α^v + α + 1, which is
-// zero, is added. The remainder changes nothing: it tells the checker that an element is small.
+// x times α. Bit i is the coefficient of α^i, so every bit moves up by one; where α^v comes up, which is bit n, the polynomial of the
+// field, which is zero, is added. The remainder changes nothing: it tells the checker that an element is small.
 fn times_alpha(n: usize, x: usize) -> usize
-    requires { ⌜ (n ≤ 64) × (x < 64) ⌝ }
-    ensures { λ r. ⌜ (r ≡ timesAlpha n x) × (r < 64) ⌝ }
+    requires { ⌜ (n ≤ 128) × (x < 128) ⌝ }
+    ensures { λ r. ⌜ (r ≡ timesAlpha n x) × (r < 128) ⌝ }
 {
     let shifted = x * 2;
     if shifted < n {
         shifted
     } else {
-        (shifted ^ (n + 3)) % 64
+        (shifted ^ code_of(n).polynomial) % 128
     }
 }
 
 // α^exponent, made from the polynomial alone.
 fn power(n: usize, exponent: usize) -> usize
-    requires { ⌜ n ≤ 64 ⌝ }
-    ensures { λ r. ⌜ (r ≡ powerOf n exponent) × (r < 64) ⌝ }
+    requires { ⌜ n ≤ 128 ⌝ }
+    ensures { λ r. ⌜ (r ≡ powerOf n exponent) × (r < 128) ⌝ }
 {
     let mut x = 1;
     for _ in 0..exponent {
@@ -44,15 +45,15 @@ fn power(n: usize, exponent: usize) -> usize
 
 // The weights of all n cells of a line. The last cell has a part in the number of ones alone.
 pub fn weights_of(n: usize) -> Weights
-    requires { ⌜ (0 < n) × (n ≤ 64) ⌝ }
-    ensures { λ r. ⌜ r ≡ set (written (λ i. i) (weightOf n) (n - 1) (replicate 64 0)) (n - 1) 4096 ⌝ }
+    requires { ⌜ (0 < n) × (n ≤ 128) ⌝ }
+    ensures { λ r. ⌜ r ≡ set (written (λ i. i) (weightOf n) (n - 1) (replicate 128 0)) (n - 1) 16384 ⌝ }
 {
     let last = n - 1;
-    let mut weights = [0usize; 64];
+    let mut weights = [0usize; 128];
     for i in 0..last {
-        weights[i] = 4096 + 64 * power(n, 3 * i) + power(n, i);
+        weights[i] = 16384 + 128 * power(n, 3 * i) + power(n, i);
     }
-    weights[last] = 4096;
+    weights[last] = 16384;
     weights
 }
 
@@ -65,7 +66,7 @@ fn added(sum: usize, cell: u8, weight: usize) -> usize
 
 // The syndrome of a word: the sum of the weights of the cells that hold 1.
 pub fn syndrome(n: usize, weights: &Weights, word: Line) -> usize
-    requires { ⌜ n ≤ 64 ⌝ }
+    requires { ⌜ n ≤ 128 ⌝ }
     ensures { λ r. ⌜ r ≡ syndromeOf n (now (weights .entry)) word ⌝ }
 {
     let mut sum = 0;
@@ -77,7 +78,7 @@ pub fn syndrome(n: usize, weights: &Weights, word: Line) -> usize
 
 // The first cell from a place on whose flip adds what is wanted to the syndrome; n, which is no cell, where there is none.
 fn flip_adding(n: usize, weights: &Weights, from: usize, wanted: usize) -> usize
-    requires { ⌜ (n ≤ 64) × (from ≤ n) ⌝ }
+    requires { ⌜ (n ≤ 128) × (from ≤ n) ⌝ }
     ensures { λ r. ⌜ r ≤ n ⌝ }
 {
     let mut i = from;
@@ -89,7 +90,7 @@ fn flip_adding(n: usize, weights: &Weights, from: usize, wanted: usize) -> usize
 
 // The word with a cell flipped; n is no cell.
 fn flip(n: usize, cell: usize, word: Line) -> Line
-    requires { ⌜ n ≤ 64 ⌝ }
+    requires { ⌜ n ≤ 128 ⌝ }
     ensures { λ r. ⌜ (Below 2 word → Below 2 r) ⌝ }
 {
     if cell < n {
@@ -109,7 +110,7 @@ pub struct Attempt {
 
 // Bounded distance: the codeword within 2. Tried are no flip, one, and then two: every cell with every later one.
 pub fn bounded_distance(n: usize, weights: &Weights, word: Line) -> Attempt
-    requires { ⌜ n ≤ 64 ⌝ }
+    requires { ⌜ n ≤ 128 ⌝ }
     ensures { λ r. ⌜ (r .found ≡ false → r .line ≡ word) × (Below 2 word → Below 2 (r .line)) ⌝ }
 {
     let sum = syndrome(n, weights, word);

@@ -2,8 +2,9 @@
 // a message is one decoding per cell, and a line is encoded by division by the generator polynomial. It shares nothing with the
 // decoder but the cells. `agreement` compares the decoder with it. Beside it: what a comparison notes.
 //
-// A code is given by n and the weights of its cells. A line is an array of 64 cells, of which the first n count, and the others are 0; an
-// array of n by n cells is one of 4096, row after row.
+// A code is given by n and the weights of its cells. A line is an array of 128 cells, of which the first n count, and the others are 0; an
+// array of n by n cells is one of 16384, row after row.
+pub mod codes; // what is fixed for each degree
 pub mod codewords; // weights, check sums, bounded distance by trying flips
 pub mod lines; // line decoding, messages, clauses and their count
 pub mod arrays; // the decoding of an array

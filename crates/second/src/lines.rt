@@ -14,21 +14,46 @@ ghost use Rattle.laws.specs.Sums.{sumTo};
 ghost use Rattle.second.specs.working.Loops.{Below};
 ghost use Rattle.second.specs.working.Lines.{oneWhere, isLike, differsAt};
 
-// A cell, or the lowest of the filling bits where it is unsure.
-fn filled(cell: u8, filling: u64) -> u8
-    ensures { λ r. ⌜ (cell < 3 → r < 2) ⌝ }
-{
-    if cell == 2 { (filling % 2) as u8 } else { cell }
+// A filling word is two numbers, low word first: the bits of cells 0 to 63, and those of cells 64 to 127.
+pub struct FillingWord {
+    pub low: u64,
+    pub high: u64,
 }
 
-// The line with its filling bit in each unsure cell: bit i of the filling word serves cell i.
-fn fill(n: usize, line: Line, filling: u64) -> Line
-    requires { ⌜ n ≤ 64 ⌝ }
+fn opposite(filling: FillingWord) -> FillingWord {
+    FillingWord {
+        low: filling.low ^ 0xFFFFFFFFFFFFFFFF,
+        high: filling.high ^ 0xFFFFFFFFFFFFFFFF,
+    }
+}
+
+// Bit i, which serves cell i.
+fn filling_bit(filling: FillingWord, i: usize) -> u8
+    requires { ⌜ i < 128 ⌝ }
+    ensures { λ r. ⌜ r < 2 ⌝ }
+{
+    if i < 64 {
+        ((filling.low >> i) % 2) as u8
+    } else {
+        ((filling.high >> (i - 64)) % 2) as u8
+    }
+}
+
+// A cell, or the filling bit where it is unsure.
+fn filled(cell: u8, bit: u8) -> u8
+    ensures { λ r. ⌜ (cell < 3 → bit < 2 → r < 2) ⌝ }
+{
+    if cell == 2 { bit } else { cell }
+}
+
+// The line with its filling bit in each unsure cell.
+fn fill(n: usize, line: Line, filling: FillingWord) -> Line
+    requires { ⌜ n ≤ 128 ⌝ }
     ensures { λ r. ⌜ (Below 3 line → Below 2 r) ⌝ }
 {
-    let mut word = [0u8; 64];
+    let mut word = [0u8; 128];
     for i in 0..n {
-        word[i] = filled(line[i], filling >> i);
+        word[i] = filled(line[i], filling_bit(filling, i));
     }
     word
 }
@@ -41,7 +66,7 @@ pub fn one_if(fact: bool) -> u64
 
 // The first n cells of a line that are like a given one: for 2 the unsure ones, for 1 the ones.
 pub fn like(cell: u8, n: usize, line: Line) -> u64
-    requires { ⌜ n ≤ 64 ⌝ }
+    requires { ⌜ n ≤ 128 ⌝ }
     ensures { λ r. ⌜ (r ≡ sumTo (isLike cell line) n) × (r ≤ n) ⌝ }
 {
     let mut many: u64 = 0;
@@ -53,7 +78,7 @@ pub fn like(cell: u8, n: usize, line: Line) -> u64
 
 // The unsure cells of a line.
 pub fn unsure(n: usize, line: Line) -> u64
-    requires { ⌜ n ≤ 64 ⌝ }
+    requires { ⌜ n ≤ 128 ⌝ }
     ensures { λ r. ⌜ (r ≡ sumTo (isLike 2 line) n) × (r ≤ n) ⌝ }
 {
     like(2, n, line)
@@ -61,7 +86,7 @@ pub fn unsure(n: usize, line: Line) -> u64
 
 // The known cells of a line in which a word differs from it.
 pub fn differences(n: usize, line: Line, word: Line) -> u64
-    requires { ⌜ n ≤ 64 ⌝ }
+    requires { ⌜ n ≤ 128 ⌝ }
     ensures { λ r. ⌜ (r ≡ sumTo (differsAt line word) n) × (r ≤ n) ⌝ }
 {
     let mut many: u64 = 0;
@@ -73,7 +98,7 @@ pub fn differences(n: usize, line: Line, word: Line) -> u64
 
 // Of what the two filled words gave, that with fewer differences at the known cells; at a tie word one's.
 fn choose(n: usize, line: Line, one: Attempt, two: Attempt) -> Attempt
-    requires { ⌜ n ≤ 64 ⌝ }
+    requires { ⌜ n ≤ 128 ⌝ }
     ensures { λ r. ⌜ (r .found ≡ false → r .line ≡ line) × (Below 3 line → Below 2 (one .line) → Below 2 (two .line) → Below 3 (r .line)) ⌝ }
 {
     let word_one = one.line;
@@ -98,13 +123,13 @@ fn choose(n: usize, line: Line, one: Attempt, two: Attempt) -> Attempt
 }
 
 // Line decoding. A line that fails is given back as it came.
-pub fn decode(n: usize, weights: &Weights, line: Line, filling: u64) -> Attempt
-    requires { ⌜ n ≤ 64 ⌝ }
+pub fn decode(n: usize, weights: &Weights, line: Line, filling: FillingWord) -> Attempt
+    requires { ⌜ n ≤ 128 ⌝ }
     ensures { λ r. ⌜ (r .found ≡ false → r .line ≡ line) × (Below 3 line → Below 3 (r .line)) ⌝ }
 {
     if unsure(n, line) < 6 {
         let one = bounded_distance(n, weights, fill(n, line, filling));
-        let two = bounded_distance(n, weights, fill(n, line, filling ^ 0xFFFFFFFFFFFFFFFF));
+        let two = bounded_distance(n, weights, fill(n, line, opposite(filling)));
         choose(n, line, one, two)
     } else {
         Attempt {
@@ -150,10 +175,10 @@ fn filling_at(
     weights: &Weights,
     incoming: Line,
     replaced: Line,
-    filling: u64,
+    filling: FillingWord,
     k: usize,
 ) -> Filling
-    requires { ⌜ (n ≤ 64) × (k < n) ⌝ }
+    requires { ⌜ (n ≤ 128) × (k < n) ⌝ }
 {
     let before = fill(n, incoming, filling);
     let after = fill(n, replaced, filling);
@@ -204,10 +229,10 @@ fn clause(
     weights: &Weights,
     incoming: Line,
     replaced: Line,
-    filling: u64,
+    filling: FillingWord,
     k: usize,
 ) -> usize
-    requires { ⌜ (n ≤ 64) × (k < n) ⌝ }
+    requires { ⌜ (n ≤ 128) × (k < n) ⌝ }
     ensures { λ r. ⌜ r ≤ 8 ⌝ }
 {
     let coming = unsure(n, incoming);
@@ -225,14 +250,7 @@ fn clause(
         CROWDED
     } else {
         let one = filling_at(n, weights, incoming, replaced, filling, k);
-        let two = filling_at(
-            n,
-            weights,
-            incoming,
-            replaced,
-            filling ^ 0xFFFFFFFFFFFFFFFF,
-            k,
-        );
+        let two = filling_at(n, weights, incoming, replaced, opposite(filling), k);
         clause_by_reach(one, two, replaced[k])
     }
 }
@@ -264,13 +282,13 @@ pub fn messages(
     weights: &Weights,
     incoming: Line,
     channel: Line,
-    filling: u64,
+    filling: FillingWord,
     tally: &mut Totals,
 ) -> Outgoing
-    requires { ⌜ n ≤ 64 ⌝ }
+    requires { ⌜ n ≤ 128 ⌝ }
     ensures { λ r. ⌜ (r .count ≤ 2 + 2 * n) × (Below 3 incoming → Below 3 channel → Below 3 (r .line)) ⌝ }
 {
-    let mut sent = [0u8; 64];
+    let mut sent = [0u8; 128];
     let mut count = 2 * one_if(unsure(n, incoming) < 6);
     for k in 0..n {
         let mut replaced = incoming;

@@ -4,18 +4,19 @@ use crate::arrays::area_of;
 use crate::arrays::decode;
 use crate::arrays::faults_in;
 use crate::arrays::is_closed;
+use crate::codes::cells_of;
 use crate::codewords::Weights;
 ghost use Prim.Native.Nat.{_≤_, _<_};
 
 // Room for the longest text.
-pub type Text = [u8; 4300];
+pub type Text = [u8; 16700];
 
 // A byte at a place, where there is room; gives the next place.
 fn put_byte(byte: u8, at: usize, output: &mut Text) -> usize
-    requires { ⌜ at ≤ 4300 ⌝ }
-    ensures { λ r. ⌜ r ≤ 4300 ⌝ }
+    requires { ⌜ at ≤ 16700 ⌝ }
+    ensures { λ r. ⌜ r ≤ 16700 ⌝ }
 {
-    if at < 4300 {
+    if at < 16700 {
         output[at] = byte;
         at + 1
     } else {
@@ -25,8 +26,8 @@ fn put_byte(byte: u8, at: usize, output: &mut Text) -> usize
 
 // Cell i as a character, and a newline after the last of a row.
 fn put_cell(n: usize, i: usize, cell: u8, at: usize, output: &mut Text) -> usize
-    requires { ⌜ (0 < n) × (i < 4096) × (at ≤ 4300) ⌝ }
-    ensures { λ r. ⌜ r ≤ 4300 ⌝ }
+    requires { ⌜ (0 < n) × (i < 16384) × (at ≤ 16700) ⌝ }
+    ensures { λ r. ⌜ r ≤ 16700 ⌝ }
 {
     let next = put_byte(if cell == 2 { 63 } else { 48 + cell % 2 }, at, output);
     if (i + 1) % n == 0 {
@@ -38,8 +39,8 @@ fn put_cell(n: usize, i: usize, cell: u8, at: usize, output: &mut Text) -> usize
 
 // The n lines of an array: its cells as characters, and a newline after each row. Gives the place after them.
 pub fn put_lines(n: usize, cells: &Cells, at: usize, output: &mut Text) -> usize
-    requires { ⌜ (0 < n) × (n ≤ 64) × (at ≤ 4300) ⌝ }
-    ensures { λ r. ⌜ r ≤ 4300 ⌝ }
+    requires { ⌜ (0 < n) × (n ≤ 128) × (at ≤ 16700) ⌝ }
+    ensures { λ r. ⌜ r ≤ 16700 ⌝ }
 {
     let area = area_of(n);
     let mut next = at;
@@ -51,21 +52,21 @@ pub fn put_lines(n: usize, cells: &Cells, at: usize, output: &mut Text) -> usize
 
 // The cell of a character at a place, where a newline has none; gives the next place.
 fn read_byte(byte: u8, at: usize, cells: &mut Cells) -> usize
-    requires { ⌜ at < 4096 ⌝ }
-    ensures { λ r. ⌜ r < 4096 ⌝ }
+    requires { ⌜ at < 16384 ⌝ }
+    ensures { λ r. ⌜ r < 16384 ⌝ }
 {
     if byte == 10 {
         at
     } else {
         cells[at] = if byte == 63 { 2 } else { byte % 2 };
-        (at + 1) % 4096
+        (at + 1) % 16384
     }
 }
 
 // The refusal number of the lines of an input, whose cells are read. Newlines stand at the ends of lines and nowhere else, so each
 // other byte is the next cell.
 fn read_lines(n: usize, input: &[u8], cells: &mut Cells) -> u64
-    requires { ⌜ n ≤ 64 ⌝ }
+    requires { ⌜ n ≤ 128 ⌝ }
     ensures { λ r. ⌜ r ≤ 4 ⌝ }
 {
     let long = input.len();
@@ -87,17 +88,28 @@ fn read_lines(n: usize, input: &[u8], cells: &mut Cells) -> u64
     }
 }
 
+// Is it the digit 4, 6 or 7?
+fn is_degree(byte: u8) -> bool {
+    (byte == 52) | (byte == 54) | (byte == 55)
+}
+
+// The length of an input with a degree's digit, whose number is its last four bits: the first line, and n lines of n cells and a newline.
+fn long_of(digit: u8) -> usize {
+    let n = cells_of((digit % 16) as u64);
+    2 + area_of(n) + n
+}
+
 // The refusal number of an input, whose cells are read.
 fn read_input(n: usize, input: &[u8], cells: &mut Cells) -> u64
-    requires { ⌜ n ≤ 64 ⌝ }
+    requires { ⌜ n ≤ 128 ⌝ }
     ensures { λ r. ⌜ r ≤ 4 ⌝ }
 {
     let long = input.len();
     if long < 2 {
         1
-    } else if (input[1] != 10) | ((input[0] != 52) & (input[0] != 54)) {
+    } else if (input[1] != 10) | !is_degree(input[0]) {
         1
-    } else if long != if input[0] == 52 { 274 } else { 4162 } {
+    } else if long != long_of(input[0]) {
         3
     } else {
         read_lines(n, input, cells)
@@ -106,8 +118,8 @@ fn read_input(n: usize, input: &[u8], cells: &mut Cells) -> u64
 
 // A number in decimal, and the byte after it.
 fn put_number(number: u64, end: u8, at: usize, output: &mut Text) -> usize
-    requires { ⌜ at ≤ 4300 ⌝ }
-    ensures { λ r. ⌜ r ≤ 4300 ⌝ }
+    requires { ⌜ at ≤ 16700 ⌝ }
+    ensures { λ r. ⌜ r ≤ 16700 ⌝ }
 {
     let mut digits = [0u8; 20];
     let many = io::decimal(number, &mut digits);
@@ -119,7 +131,7 @@ fn put_number(number: u64, end: u8, at: usize, output: &mut Text) -> usize
 }
 
 fn put_numbers(a: u64, b: u64, c: u64, d: u64, output: &mut Text) -> usize
-    ensures { λ r. ⌜ r ≤ 4300 ⌝ }
+    ensures { λ r. ⌜ r ≤ 16700 ⌝ }
 {
     let second = put_number(a, 32, 0, output);
     let third = put_number(b, 32, second, output);
@@ -129,10 +141,10 @@ fn put_numbers(a: u64, b: u64, c: u64, d: u64, output: &mut Text) -> usize
 
 // The received array is decoded by one iteration with filling words of zero, and printed.
 fn put_decoded(n: usize, weights: &Weights, received: &Cells, output: &mut Text) -> usize
-    requires { ⌜ (0 < n) × (n ≤ 64) ⌝ }
-    ensures { λ r. ⌜ r ≤ 4300 ⌝ }
+    requires { ⌜ (0 < n) × (n ≤ 128) ⌝ }
+    ensures { λ r. ⌜ r ≤ 16700 ⌝ }
 {
-    let filling = [0u64; 2560];
+    let filling = [0u64; 10240];
     let mut tally = [0u64; 32];
     let mut cells = *received;
     let count = decode(
@@ -152,10 +164,10 @@ fn put_decoded(n: usize, weights: &Weights, received: &Cells, output: &mut Text)
 
 // What is printed for an input, and its length.
 pub fn sheet_text(n: usize, weights: &Weights, input: &[u8], output: &mut Text) -> usize
-    requires { ⌜ (0 < n) × (n ≤ 64) ⌝ }
-    ensures { λ r. ⌜ r ≤ 4300 ⌝ }
+    requires { ⌜ (0 < n) × (n ≤ 128) ⌝ }
+    ensures { λ r. ⌜ r ≤ 16700 ⌝ }
 {
-    let mut received = [0u8; 4096];
+    let mut received = [0u8; 16384];
     let refusal = read_input(n, input, &mut received);
     if refusal != 0 {
         put_numbers(refusal, 0, 0, 0, output)

@@ -1,6 +1,7 @@
 // What a comparison notes, and how it is printed. A kind of test keeps a tally: how many were tried, agree and differ, and the sum of
 // their results; from place 4 on numbers of its own; from place 8 on how often each clause was met; and from place 17 on how often an
-// array was left almost closed: it fails one of the tests of closed alone. Counts wrap, so that nothing has to be known of them; none comes near 2^64.
+// array was left almost closed: it fails one of the tests of closed alone. Counts wrap, so that nothing has to be known of them; none
+// comes near 2^64.
 use libc::STDOUT_FILENO;
 use std::num::wrapping_add_u64;
 ghost use mathlib.Core.Path.{_≡_};
@@ -53,6 +54,13 @@ pub fn tick_if(tally: &mut Totals, place: usize, fact: bool)
         let at = place % 32;
         tally[at] = wrapping_add_u64(tally[at], 1);
     }
+}
+
+// How many cells a room for a line of n has that is compared and goes into a sum: 64 at the lower degrees, of which those past n are 0.
+pub fn room_of(n: usize) -> usize
+    ensures { λ r. ⌜ (16 ≤ r) × (r ≤ 128) ⌝ }
+{
+    if n <= 64 { 64 } else { 128 }
 }
 
 // A cell of a room, which is 0 past the cells that are lent.

@@ -49,7 +49,7 @@ fn complain(wrong: bool, text: &[u8]) {
     }
 }
 
-fn print(output: &[u8; 4244], long: usize) {
+fn print(output: &[u8; 16596], long: usize) {
     let all = &output[..];
     if long <= all.len() {
         let written = io::write_all(STDOUT_FILENO, &all[0..long]);
@@ -58,7 +58,7 @@ fn print(output: &[u8; 4244], long: usize) {
 }
 
 fn run(input: &[u8]) {
-    let mut output = [0u8; 4244];
+    let mut output = [0u8; 16596];
     let long = text::sheet::sheet_text(input, &mut output);
     print(&output, long);
 }

@@ -23,7 +23,7 @@ hundred-is = refl
 abbrev refused : ℕ → List ℕ
 refused c = c ∷ 32 ∷ 48 ∷ 32 ∷ 48 ∷ 32 ∷ 48 ∷ 10 ∷ []
 
--- an empty input, 4 without a newline, 04, 4 with a carriage return, and 5
+-- an empty input, 4 without a newline, 04, 4 with a carriage return, 5 and 8
 nothing : printed [] ≡ refused 49
 unfolding printed given sheetTests refusalText numbersText numberText decimalDigits decimal
 nothing = refl
@@ -44,7 +44,15 @@ five : printed (53 ∷ 10 ∷ []) ≡ refused 49
 unfolding printed given sheetTests refusalText numbersText numberText decimalDigits decimal
 five = refl
 
--- no lines after 4
+eight : printed (56 ∷ 10 ∷ []) ≡ refused 49
+unfolding printed given sheetTests refusalText numbersText numberText decimalDigits decimal
+eight = refl
+
+-- no lines after 4, and none after 7, which is a degree (document 02, W-212)
 no-lines : printed (52 ∷ 10 ∷ []) ≡ refused 51
 unfolding printed given sheetTests shaped refusalText numbersText numberText decimalDigits decimal
 no-lines = refl
+
+no-long-lines : printed (55 ∷ 10 ∷ []) ≡ refused 51
+unfolding printed given sheetTests shaped refusalText numbersText numberText decimalDigits decimal
+no-long-lines = refl

@@ -4,7 +4,7 @@ use mathlib.Core.Path.{_≡_, refl, sym, ap, _∙_}
 use mathlib.Core.Bool.{Bool, true, false, cond, not}
 use mathlib.Core.Logic.{dite}
 use mathlib.Core.List.{List, [], _∷_, map}
-use Prim.Native.Nat.{ℕ, suc, _+_, _-_, _*_, _^_, _<_, _≤_}
+use Prim.Native.Nat.{ℕ, zero, suc, _+_, _-_, _*_, _^_, _<_, _≤_}
 use native.Mathlib.Nat.{mul-le-mul}
 use native.Mathlib.Decide.{decLt}
 use native.Mathlib.Omega.{arith}
@@ -14,7 +14,6 @@ use lib.ListN.{length, take, drop, replicate, length-drop, length-replicate, Lis
 use lib.Seq.{take-all}
 use Rattle.laws.specs.Tests.{every}
 use Rattle.degree.specs.declared.Degree.{Degree}
-use Rattle.degree.specs.declared.Degree.the-variants.{Four, Six}
 use Rattle.degree.specs.declared.Named.the-variants.{Known, Unknown}
 use Rattle.degree.specs.Degree.{bits, size, named}
 use Rattle.line.specs.Cells.{cell, Cells, erasures}
@@ -29,9 +28,11 @@ use Rattle.line.specs.Refusals.{number, refusal, atMost}
 use Rattle.line.specs.working.Calls.{Tested}
 use Rattle.line.proofs.Refusing.{some-number, known-unknown, bits-named, known-size, none-applies, given-taken, given-refused, tested-known}
 use Rattle.laws.proofs.Tests.{and-true}
-use Rattle.array.specs.Plain.{plain, plainCount, closed}
+use Rattle.array.specs.Plain.{fillings, plain, plainCount, closed}
 use Rattle.array.specs.working.Steps.{IsArray}
 use Rattle.array.specs.working.Runs.{DecodingDone}
+use Rattle.line.proofs.Bounds.{size-le}
+use Rattle.array.proofs.Fillings.{fillings-zeros}
 use Rattle.array.proofs.ArrayLaws.{length-lines, line-lines, line-at, each-cell}
 use Rattle.text.specs.Text.{byte, firstLine, shaped, known, cellOf, cellsOf, sheetTests, reportText, refusalText, decodedText, printed}
 use Rattle.text.specs.working.Characters.{placed, zeros}
@@ -39,9 +40,9 @@ use Rattle.text.proofs.WritingLaws.{cells-even}
 
 -- ---- sizes
 
--- the lines of a sheet have 4160 bytes at most
-pub sheet-le : (n : ℕ) → n ≤ 64 → n * (n + 1) ≤ 4160
-sheet-le n h = let l : n + 1 ≤ 65 = omega arith in mul-le-mul h l
+-- the lines of a sheet have 16512 bytes at most
+pub sheet-le : (n : ℕ) → n ≤ 128 → n * (n + 1) ≤ 16512
+sheet-le n h = let l : n + 1 ≤ 129 = omega arith in mul-le-mul h l
 
 -- ---- the cells that are read make an array
 
@@ -68,38 +69,47 @@ cells-array n t e = record {
 
 -- ---- the call of decode is taken
 
-zero-words : (d : Degree) → take (2 * size d) (replicate 128 0) ≡ zeros d
-zero-words Four = refl
-zero-words Six = refl
+-- the numbers that are lent are 0
+take-zeros : (k n : ℕ) → k ≤ n → take {A = ℕ} k (replicate n 0) ≡ replicate k 0
+take-zeros zero n h = refl
+take-zeros (suc k) zero h = absurd (omega arith)
+take-zeros (suc k) (suc n) h = ap (λ (l : List ℕ). 0 ∷ l) (take-zeros k n (omega arith))
 
-pub words-are : (d : Degree) {x : ℕ} → x ≡ size d → take (2 * x) (replicate 128 0) ≡ zeros d
-words-are d e = rw e (zero-words d)
+pub numbers-are : (d : Degree) {x : ℕ} → x ≡ size d → take {A = ℕ} (4 * x) (replicate 512 0) ≡ replicate (4 * size d) 0
+numbers-are d e = rw e (take-zeros (4 * size d) 512 (omega (arith, size-le d refl)))
+
+-- and so are the filling words
+zero-fillings : (d : Degree) → fillings (replicate (4 * size d) 0) ≡ zeros d
+zero-fillings d = let e : 4 * size d ≡ 2 * (2 * size d) = omega arith in rw e (fillings-zeros (2 * size d))
 
 small-at-most : (r : List ℕ) → ((i : ℕ) → cell r i < 3) → atMost 2 r ≡ true
 unfolding atMost
 small-at-most [] h = refl
 small-at-most (c ∷ cs) h = rw (le-leb c 2 (omega (arith, h 0))) (small-at-most cs (λ i. h (suc i)))
 
-module _ (d : Degree) (degree : ℕ) (r w before : List ℕ) (e : degree ≡ bits d) (a : IsArray d r) (l : length before ≡ size d * size d) (z : w ≡ zeros d) where
+module _ (d : Degree) (degree : ℕ) (r w before : List ℕ) (e : degree ≡ bits d) (a : IsArray d r) (l : length before ≡ size d * size d) (z : w ≡ replicate (4 * size d) 0) where
   abbrev Tests : List (ℕ × Bool)
   Tests = decodeTests degree 1 r w before []
 
   taken-call : (refusal Tests ≡ 0) × (named degree ≡ Known d)
   unfolding decodeTests
   taken-call =
-      let long : length w ≡ 2 * 1 * size d = ap length z ∙ length-replicate (2 * size d) 0 ∙ omega arith in (
-        rw (e, bits-named d, eq-eqb (length r) (size d * size d) (a .long), eq-eqb (length before) (size d * size d) l, eq-eqb (length w) (2 * 1 * size d) long, small-at-most r (a .small)),
+      let long : length w ≡ 4 * 1 * size d = ap length z ∙ length-replicate (4 * size d) 0 ∙ omega arith in (
+        rw (e, bits-named d, eq-eqb (length r) (size d * size d) (a .long), eq-eqb (length before) (size d * size d) l, eq-eqb (length w) (4 * 1 * size d) long, small-at-most r (a .small)),
         ap named e ∙ bits-named d,
       )
+
+  none : fillings w ≡ zeros d
+  none = ap fillings z ∙ zero-fillings d
 
   module _ (after : List ℕ) (o : DecodeAnswer) (done : DecodeDone degree 1 r w before [] after o) where
     -- what an answer says
     pub decoded-answer : (t : Report) → o ≡ answer.Decoded t → DecodingDone d 1 r (zeros d) after t
     decoded-answer t h = record {
-      cells = done .cells ∙ given-taken Tests degree (λ d. plain d 1 r r w) before taken-call ∙ ap (plain d 1 r r) z;
-      count = sym (ap (λ (a : DecodeAnswer). decodeNumbers a .1) h) ∙ done .count ∙ given-taken Tests degree (λ d. plainCount d 1 r r w) 0 taken-call ∙ ap (plainCount d 1 r r) z;
-      erasures = sym (ap (λ (a : DecodeAnswer). decodeNumbers a .2) h) ∙ done .erasures ∙ given-taken Tests degree (λ d. erasures (plain d 1 r r w)) 0 taken-call ∙ ap (λ (x : List ℕ). erasures (plain d 1 r r x)) z;
-      closed = sym (ap (λ (a : DecodeAnswer). decodeNumbers a .3) h) ∙ done .closed ∙ given-taken Tests degree (λ d. closed d (plain d 1 r r w)) false taken-call ∙ ap (λ (x : List ℕ). closed d (plain d 1 r r x)) z;
+      cells = done .cells ∙ given-taken Tests degree (λ d. plain d 1 r r (fillings w)) before taken-call ∙ ap (plain d 1 r r) none;
+      count = sym (ap (λ (a : DecodeAnswer). decodeNumbers a .1) h) ∙ done .count ∙ given-taken Tests degree (λ d. plainCount d 1 r r (fillings w)) 0 taken-call ∙ ap (plainCount d 1 r r) none;
+      erasures = sym (ap (λ (a : DecodeAnswer). decodeNumbers a .2) h) ∙ done .erasures ∙ given-taken Tests degree (λ d. erasures (plain d 1 r r (fillings w))) 0 taken-call ∙ ap (λ (x : List ℕ). erasures (plain d 1 r r x)) none;
+      closed = sym (ap (λ (a : DecodeAnswer). decodeNumbers a .3) h) ∙ done .closed ∙ given-taken Tests degree (λ d. closed d (plain d 1 r r (fillings w))) false taken-call ∙ ap (λ (x : List ℕ). closed d (plain d 1 r r x)) none;
     }
 
     -- no answer is a refusal

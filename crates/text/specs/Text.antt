@@ -33,8 +33,8 @@ shaped n t = eqb (length t) (n * (n + 1)) && every (λ p. cond (eqb (p % (n + 1)
 unfoldable pub known : List ℕ → Bool
 known t = every (λ p. eqb (byte t p) 10 || (eqb (byte t p) 48 || (eqb (byte t p) 49 || eqb (byte t p) 63))) (length t)
 
--- the tests of what is read, the lines being what follows the first 2 bytes: "A first line other than just 4 or 6 and a newline is 1. Wrong byte totals or newline places are 3;
--- another character is 4."
+-- the tests of what is read, the lines being what follows the first 2 bytes: "A first line other than just 4 or 6 and a newline is 1",
+-- but document 02, W-212: "takes a first line 7 as well". "Wrong byte totals or newline places are 3; another character is 4."
 unfoldable pub sheetTests : (input : List ℕ) → List (ℕ × Bool)
 sheetTests input =
     (1, unnamed (firstLine input))

@@ -34,7 +34,7 @@ pub fn first_line(text: &[u8]) -> u64
 
 // Is byte p a newline exactly if it should be one?
 fn is_placed(n: usize, p: usize, byte: u8) -> bool
-    requires { ⌜ n ≤ 64 ⌝ }
+    requires { ⌜ n ≤ 128 ⌝ }
     ensures { λ r. ⌜ r ≡ placed n p byte ⌝ }
 {
     if p % (n + 1) == n {
@@ -46,7 +46,7 @@ fn is_placed(n: usize, p: usize, byte: u8) -> bool
 
 // Is every newline where it should be?
 fn all_placed(n: usize, text: &[u8]) -> bool
-    requires { ⌜ n ≤ 64 ⌝ }
+    requires { ⌜ n ≤ 128 ⌝ }
     ensures { λ r. ⌜ r ≡ every (λ p. placed n p (byte (now (text .entry)) p)) (length (now (text .entry))) ⌝ }
 {
     let mut all = true;
@@ -60,7 +60,7 @@ fn all_placed(n: usize, text: &[u8]) -> bool
 
 // Test 3: n lines of n cells and a newline. No byte is read where their total is wrong.
 pub fn is_shaped(n: usize, text: &[u8]) -> bool
-    requires { ⌜ n ≤ 64 ⌝ }
+    requires { ⌜ n ≤ 128 ⌝ }
     ensures { λ r. ⌜ r ≡ shaped n (now (text .entry)) ⌝ }
 {
     if text.len() == n * (n + 1) {
@@ -86,7 +86,7 @@ pub fn is_known(text: &[u8]) -> bool
 
 // The cells of n lines, each without its newline.
 pub fn read_cells(n: usize, text: &[u8], cells: &mut [u8])
-    requires { ⌜ (n ≤ 64) × (length (now text) ≡ n * (n + 1)) × (length (now cells) ≡ n * n) ⌝ }
+    requires { ⌜ (n ≤ 128) × (length (now text) ≡ n * (n + 1)) × (length (now cells) ≡ n * n) ⌝ }
     ensures { λ _. ⌜ now (cells .exit) ≡ cellsOf n (now (text .entry)) ⌝ }
 {
     let mut next = 0;

@@ -31,7 +31,7 @@ fn array_text(
     cells: &mut [u8],
     output: &mut [u8],
 ) -> usize
-    requires { ⌜ (length (now text) ≡ size d * (size d + 1)) × (length (now received) ≡ size d * size d) × (length (now cells) ≡ size d * size d) × (4244 ≤ length (now output)) ⌝ }
+    requires { ⌜ (length (now text) ≡ size d * (size d + 1)) × (length (now received) ≡ size d * size d) × (length (now cells) ≡ size d * size d) × (16596 ≤ length (now output)) ⌝ }
     ensures { λ r. ⌜ Wrote (now (output .entry)) 0 (decodedText d (cellsOf (size d) (now (text .entry)))) (now (output .exit)) r ⌝ }
 {
     let n = size_of(d);
@@ -48,13 +48,13 @@ fn array_text(
 }
 
 fn taken_text(d: Degree, text: &[u8], output: &mut [u8]) -> usize
-    requires { ⌜ (length (now text) ≡ size d * (size d + 1)) × (4244 ≤ length (now output)) ⌝ }
+    requires { ⌜ (length (now text) ≡ size d * (size d + 1)) × (16596 ≤ length (now output)) ⌝ }
     ensures { λ r. ⌜ Wrote (now (output .entry)) 0 (decodedText d (cellsOf (size d) (now (text .entry)))) (now (output .exit)) r ⌝ }
 {
     let n = size_of(d);
     let long = n * n;
-    let mut received = [0u8; 4096];
-    let mut cells = [0u8; 4096];
+    let mut received = [0u8; 16384];
+    let mut cells = [0u8; 16384];
     array_text(d, text, &mut received[..long], &mut cells[..long], output)
 }
 
@@ -86,7 +86,7 @@ fn sheet_test(input: &[u8]) -> Call
 }
 
 pub fn text_into(input: &[u8], output: &mut [u8]) -> usize
-    requires { ⌜ 4244 ≤ length (now output) ⌝ }
+    requires { ⌜ 16596 ≤ length (now output) ⌝ }
     ensures { λ r. ⌜ Wrote (now (output .entry)) 0 (printed (now (input .entry))) (now (output .exit)) r ⌝ }
 {
     let call = sheet_test(input);
@@ -96,9 +96,9 @@ pub fn text_into(input: &[u8], output: &mut [u8]) -> usize
     }
 }
 
-// Entry: writes what is printed for the input, and returns its length. Four numbers of 21 bytes at most and 64 lines of 65 bytes
-// at most are 4244 bytes.
-pub fn sheet_text(input: &[u8], output: &mut [u8; 4244]) -> usize
+// Entry: writes what is printed for the input, and returns its length. Four numbers of 21 bytes at most and 128 lines of 129 bytes
+// at most are 16596 bytes.
+pub fn sheet_text(input: &[u8], output: &mut [u8; 16596]) -> usize
     ensures { λ r. ⌜ Wrote (now (output .entry)) 0 (printed (now (input .entry))) (now (output .exit)) r ⌝ }
 {
     text_into(input, output)

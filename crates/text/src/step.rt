@@ -18,6 +18,7 @@ fn degree_number(d: Degree) -> u64
     match d {
         Degree::Four => 4,
         Degree::Six => 6,
+        Degree::Seven => 7,
     }
 }
 
@@ -26,9 +27,9 @@ pub fn decoded(d: Degree, received: &[u8], cells: &mut [u8]) -> Report
     requires { ⌜ IsArray d (now received) × (length (now cells) ≡ size d * size d) ⌝ }
     ensures { λ r. ⌜ DecodingDone d 1 (now (received .entry)) (zeros d) (now (cells .exit)) r ⌝ }
 {
-    let filling = [0u64; 128];
-    let words = 2 * size_of(d);
-    let answer = decode(degree_number(d), 1, received, &filling[..words], cells);
+    let filling = [0u64; 512];
+    let numbers = 4 * size_of(d); // of 2 n filling words
+    let answer = decode(degree_number(d), 1, received, &filling[..numbers], cells);
     match answer {
         DecodeAnswer::Decoded(report) => report,
         DecodeAnswer::Refused(_) => Report {

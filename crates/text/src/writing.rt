@@ -51,7 +51,7 @@ fn put_line(cells: &[u8], at: usize, output: &mut [u8]) -> usize
 
 // The n lines of n cells.
 fn put_lines(n: usize, cells: &[u8], at: usize, output: &mut [u8]) -> usize
-    requires { ⌜ (n ≤ 64) × (length (now cells) ≡ n * n) × (at + n * (n + 1) ≤ length (now output)) ⌝ }
+    requires { ⌜ (n ≤ 128) × (length (now cells) ≡ n * n) × (at + n * (n + 1) ≤ length (now output)) ⌝ }
     ensures { λ r. ⌜ Wrote (now (output .entry)) at (arrayText n (now (cells .entry))) (now (output .exit)) r ⌝ }
 {
     let mut next = at;
@@ -66,7 +66,7 @@ fn put_lines(n: usize, cells: &[u8], at: usize, output: &mut [u8]) -> usize
     next
 }
 
-// All that is printed for a call that was taken: four numbers of 21 bytes at most, and 64 lines of 65 bytes at most.
+// All that is printed for a call that was taken: four numbers of 21 bytes at most, and 128 lines of 129 bytes at most.
 pub fn report_text(
     n: usize,
     cells: &[u8],
@@ -75,7 +75,7 @@ pub fn report_text(
     closed: bool,
     output: &mut [u8],
 ) -> usize
-    requires { ⌜ (n ≤ 64) × (length (now cells) ≡ n * n) × (4244 ≤ length (now output)) ⌝ }
+    requires { ⌜ (n ≤ 128) × (length (now cells) ≡ n * n) × (16596 ≤ length (now output)) ⌝ }
     ensures { λ r. ⌜ Wrote (now (output .entry)) 0 (reportText n (now (cells .entry)) count erasures closed) (now (output .exit)) r ⌝ }
 {
     let shut: u64 = if closed { 1 } else { 0 };
@@ -84,7 +84,7 @@ pub fn report_text(
 }
 
 pub fn refusal_text(number: u64, output: &mut [u8]) -> usize
-    requires { ⌜ 4244 ≤ length (now output) ⌝ }
+    requires { ⌜ 16596 ≤ length (now output) ⌝ }
     ensures { λ r. ⌜ Wrote (now (output .entry)) 0 (refusalText number) (now (output .exit)) r ⌝ }
 {
     put_numbers(number, 0, 0, 0, output)

@@ -5,3 +5,5 @@ mod GatherLaws
 pub mod ZeroLaws
 pub mod PairLaws
 mod SumLaws
+pub mod Halves
+pub mod GridLaws

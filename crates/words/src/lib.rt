@@ -1,8 +1,10 @@
-// Bits and bytes in machine words: transposing, copying, gathering and spreading of bytes, sums, a test for 0. Nothing here knows of
-// codes.
-mod bytes; // eight bytes at a time, to a word and back
+// Bits and bytes in machine words: packed words, gathered from bytes and spread over them, kept in grids and transposed, summed; copies.
+// Nothing here knows of codes.
+pub mod word; // a packed word; no other module looks inside
+mod bytes; // eight bytes at a time, to a number and back
 pub mod pairs; // the two lowest bits of bytes, gathered in two words and spread again
 pub mod copying; // one slice into another of its length
-pub mod transpose; // 64 words become the words of their columns
-pub mod zeros; // are all words 0?
-pub mod sums; // sums of words by exclusive or
+mod transpose; // 64 numbers become the numbers of their columns
+mod zeros; // are all numbers 0?
+pub mod grid; // 128 words in an array of numbers, and their transpose
+pub mod sums; // sums of words and of table entries, by exclusive or

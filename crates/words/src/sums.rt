@@ -1,29 +1,72 @@
-// Sums of words, by exclusive or.
+// Sums by exclusive or: of words, and of table entries by the bytes of a word.
+use crate::grid::word_in;
+use crate::word::Word;
+use crate::word::bit_at;
+use crate::word::xor_where;
+use crate::word::zero_word;
 ghost use mathlib.Core.Path.{_≡_};
-ghost use mathlib.Core.Bool.{cond};
-ghost use Prim.Native.Nat.{_<_, _≤_};
 ghost use lib.Bits.{bitXor};
+ghost use Prim.Native.Nat.{ℕ, _+_, _*_, _^_, _<_, _≤_};
 ghost use lib.ListN.{length};
-ghost use Rattle.words.specs.working.Sums.{chosenSum};
-
-// A sum, and one part more where it is asked for.
-fn sum_where(yes: bool, sum: u64, part: u64) -> u64
-    ensures { λ r. ⌜ r ≡ bitXor sum (cond yes part 0) ⌝ }
-{
-    if yes { sum ^ part } else { sum }
-}
+ghost use Rattle.laws.specs.Digits.{sumOver, digits};
+ghost use Rattle.words.specs.working.Sums.{chosenSum, ByteSums};
+ghost use Rattle.words.specs.working.Word.{value, width};
 
 // The sum of the first k words whose entry in the table has bit i.
-pub fn chosen_sum(k: usize, table: &[u64; 64], words: &[u64], i: u32) -> u64
-    requires { ⌜ (k ≤ 64) × (length (now words) ≡ 64) × (i < 64) ⌝ }
-    ensures { λ r. ⌜ r ≡ chosenSum (now (table .entry)) (now (words .entry)) k i ⌝ }
+pub fn chosen_sum(k: usize, table: &[u64], words: &[u64], i: u32) -> Word
+    requires { ⌜ (k ≤ 128) × (length (now table) ≡ 256) × (length (now words) ≡ 256) × (i < width) ⌝ }
+    ensures { λ r. ⌜ value r ≡ chosenSum (now (table .entry)) (now (words .entry)) k i ⌝ }
 {
-    let mut sum: u64 = 0;
+    let mut sum = zero_word();
     let mut a = 0;
     while a < k {
-        let bit = (table[a] >> i) % 2;
-        sum = sum_where(bit == 1, sum, words[a]);
+        let bit = bit_at(word_in(table, 0, a), i);
+        sum = xor_where(bit == 1, sum, word_in(words, 0, a));
         a += 1;
     }
     sum
+}
+
+// The sum of the entries at the eight bytes of a number, from `base` on. Eight turns, which the compiler unrolls.
+fn eight_sum(number: u64, table: &[u16], base: usize) -> u16
+    requires { ⌜ base + 2048 ≤ length (now table) ⌝ }
+    ensures { λ r. ⌜ ((W : ℕ → ℕ) → ByteSums W base 8 (now (table .entry)) → r ≡ sumOver W (digits 64 number)) ⌝ }
+{
+    let mut sum: u16 = 0;
+    let mut rest = number;
+    let mut j = 0;
+    while j < 8 {
+        let at = base + j * 256 + (rest % 256) as usize;
+        sum = sum ^ table[at];
+        rest = rest / 256;
+        j += 1;
+    }
+    sum
+}
+
+// A sum with those entries added, for a number that is mostly 0: a loop whose turns are not known when it is compiled stays small, and
+// for 0 it takes none.
+fn sum_with(sum: u16, number: u64, table: &[u16], base: usize) -> u16
+    requires { ⌜ base + 2048 ≤ length (now table) ⌝ }
+    ensures { λ r. ⌜ ((W : ℕ → ℕ) → ByteSums W base 8 (now (table .entry)) → r ≡ bitXor sum (sumOver W (digits 64 number))) ⌝ }
+{
+    let mut all = sum;
+    let mut rest = number;
+    let mut j = 0;
+    while rest != 0 {
+        let at = base + j * 256 + (rest % 256) as usize;
+        all = all ^ table[at];
+        rest = rest / 256;
+        j += 1;
+    }
+    all
+}
+
+// The sum of the entries at the bytes of a word of two numbers: block j of 256 entries, from `base` on, is for byte j.
+pub fn byte_sum(low: u64, high: u64, table: &[u16], base: usize) -> u16
+    requires { ⌜ base + 4096 ≤ length (now table) ⌝ }
+    ensures { λ r. ⌜ ((W : ℕ → ℕ) → ByteSums W base 16 (now (table .entry)) → r ≡ sumOver W (digits width (high * 2 ^ 64 + low))) ⌝ }
+{
+    let sum = eight_sum(low, table, base);
+    sum_with(sum, high, table, base + 2048)
 }

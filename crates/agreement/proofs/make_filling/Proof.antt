@@ -5,10 +5,10 @@ use Rattle.agreement.proofs.make_filling.Statement.{statement}
 use Rattle.agreement.proofs.make_filling.Tie as tie
 
 abbrev Inv-loop : tie.InvT-loop
-Inv-loop kind state₀ filling₀ i₀ state filling i = i ≤ 2560
+Inv-loop n kind state₀ filling₀ many w₀ state filling w = w ≤ many
 
 abbrev μ-loop : tie.MeasureT-loop
-μ-loop kind state₀ filling₀ i₀ state filling i = 2560 - i
+μ-loop n kind state₀ filling₀ many w₀ state filling w = many - w
 
 pub make-filling-spec : {M : Type 1} → statement M
 make-filling-spec =
@@ -16,8 +16,15 @@ make-filling-spec =
     (tie.spec
     Inv-loop
     μ-loop
+    (λ c κs. search needs)
+    (λ c κs. search needs)
     (λ c. search needs)
     (λ c κs. search needs)
+    (λ c. search needs)
+    (λ c. search needs)
+    (λ c. search needs)
+    (λ c. search needs)
+    (λ c. search needs)
     (λ c. search needs)
     (λ c. search needs)
     (λ c. search needs)

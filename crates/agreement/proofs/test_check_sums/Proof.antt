@@ -5,10 +5,10 @@ use Rattle.agreement.proofs.test_check_sums.Statement.{statement}
 use Rattle.agreement.proofs.test_check_sums.Tie as tie
 
 abbrev Inv-loop : tie.InvT-loop
-Inv-loop n weights tally₀ x₀ x-end tally x = x ≤ x-end
+Inv-loop n weights tally₀ pairs x₀ tally x = x ≤ pairs
 
 abbrev μ-loop : tie.MeasureT-loop
-μ-loop n weights tally₀ x₀ x-end tally x = x-end - x
+μ-loop n weights tally₀ pairs x₀ tally x = pairs - x
 
 pub test-check-sums-spec : {M : Type 1} → statement M
 test-check-sums-spec =

@@ -5,10 +5,10 @@ use Rattle.agreement.proofs.word_of_digits.Statement.{statement}
 use Rattle.agreement.proofs.word_of_digits.Tie as tie
 
 abbrev Inv-loop : tie.InvT-loop
-Inv-loop n x word₀ i₀ word i = i ≤ 12
+Inv-loop n x word₀ i₀ word i = i ≤ 14
 
 abbrev μ-loop : tie.MeasureT-loop
-μ-loop n x word₀ i₀ word i = 12 - i
+μ-loop n x word₀ i₀ word i = 14 - i
 
 pub word-of-digits-spec : {M : Type 1} → statement M
 word-of-digits-spec =

@@ -1,26 +1,28 @@
--- The rows of an array packed in 128 words. Only this file and the code's `packing` know how.
+-- The rows of an array packed in two grids of words. Only this file and the code's `packing` know how.
 use mathlib.Core.Path.{_≡_}
 use mathlib.Core.Bool.{Bool}
 use mathlib.Core.List.{List, _++_}
-use Prim.Native.Nat.{ℕ, _+_, _*_, _<_, _≤_}
-use lib.ListN.{length, getD, take, drop}
+use Prim.Native.Nat.{ℕ, _*_, _<_, _≤_}
+use lib.ListN.{length, take, drop}
 use Rattle.line.specs.working.Packed.{IsLine, isOne, packBy, Packs}
 use Rattle.line.specs.Cells.{isErased}
 use Rattle.line.specs.declared.packed.Line.{Line}
-use Rattle.words.specs.working.Network.{Turned}
+use Rattle.words.specs.working.Grid.{wordIn, Small}
+use Rattle.words.specs.working.Word.{width}
 use Rattle.array.specs.Arrays.{line, transpose}
 
 -- word i packs line i of m by p: past the last line a line is empty, and its word 0
 abbrev pub RowWords : (ℕ → Bool) → ℕ → List ℕ → (ℕ → ℕ) → Type 0
-RowWords p n m word = (i : ℕ) → i < 64 → word i ≡ packBy p (line n m i)
+RowWords p n m word = (i : ℕ) → i < width → word i ≡ packBy p (line n m i)
 
--- an array of n by n cells, and its rows packed: word i has the ones of row i, word 64 + i its erasures
+-- an array of n by n cells, and its rows packed: word i of the first grid has the ones of row i, word i of the second its erasures
 pub record Held (n : ℕ) (m rows : List ℕ) : Type 0 where
-  pub room : n ≤ 64
+  pub room : n ≤ width
   pub array : IsLine (n * n) m
-  pub long : length rows ≡ 128
-  pub ones : RowWords isOne n m (λ i. getD rows i 0)
-  pub erased : RowWords isErased n m (λ i. getD rows (64 + i) 0)
+  pub long : length rows ≡ 512
+  pub small : Small rows
+  pub ones : RowWords isOne n m (λ i. wordIn rows 0 i)
+  pub erased : RowWords isErased n m (λ i. wordIn rows 256 i)
 
 -- an array with line i made y
 abbrev pub withLine : ℕ → List ℕ → ℕ → List ℕ → List ℕ
@@ -34,12 +36,6 @@ LineIn rows i l = (n : ℕ) (m : List ℕ) → Held n m rows → i < n → Packs
 abbrev pub LinePut : List ℕ → ℕ → Line → List ℕ → Type 0
 LinePut before i l after = (n : ℕ) (m y : List ℕ) → Held n m before → i < n → Packs n y l → Held n (withLine n m i y) after
 
--- 128 words as two blocks of 64, and each transposed by itself
-pub record BlocksTurned (before after : List ℕ) : Type 0 where
-  pub long : length after ≡ 128
-  pub first : Turned (line 64 before 0) (line 64 after 0)
-  pub second : Turned (line 64 before 1) (line 64 after 1)
-
--- packed rows transposed
-abbrev pub RowsTurned : List ℕ → List ℕ → Type 0
-RowsTurned before after = (n : ℕ) (m : List ℕ) → Held n m before → Held n (transpose n n m) after
+-- packed rows of an array of n by n cells transposed
+abbrev pub RowsTurned : ℕ → List ℕ → List ℕ → Type 0
+RowsTurned n before after = (m : List ℕ) → Held n m before → Held n (transpose n n m) after

@@ -4,11 +4,11 @@ use mathlib.Core.Path.{_≡_}
 use mathlib.Core.List.{List}
 use Prim.Native.Nat.{ℕ, _+_, _*_, _<_}
 use lib.ListN.{length, getD}
-use Rattle.laws.specs.Digits.{sumOver, digits}
 use Rattle.laws.specs.working.Digits.{upTo}
 use Rattle.degree.specs.declared.Degree.{Degree}
-use Rattle.degree.specs.declared.Degree.the-variants.{Four, Six}
+use Rattle.degree.specs.declared.Degree.the-variants.{Four, Six, Seven}
 use Rattle.degree.specs.Degree.{size, order}
+use Rattle.words.specs.working.Sums.{ByteSums}
 use Rattle.field.specs.Field.{power}
 use Rattle.field.specs.working.Places.{Places}
 
@@ -25,24 +25,30 @@ weight d i =
 
 -- entry i, for each cell i: its weight
 abbrev pub Weights : Degree → List ℕ → Type 0
-Weights d t = (i : ℕ) → i < 64 → getD t i 0 ≡ weight d i
+Weights d t = (i : ℕ) → i < 128 → getD t i 0 ≡ weight d i
 
--- entry 64 + α^i: the number i
+-- entry 128 + α^i: the number i
 abbrev pub Logs : Degree → List ℕ → Type 0
-Logs d t = (i : ℕ) → i < order d → getD t (64 + power d i) 0 ≡ i
+Logs d t = (i : ℕ) → i < order d → getD t (128 + power d i) 0 ≡ i
 
--- entry 128 + 256 j + x, for j below k: the weights of the cells 8 j + i, summed over the bits i of x
-abbrev pub Sums : Degree → ℕ → List ℕ → Type 0
-Sums d k t = (j x : ℕ) → j < k → x < 256 → getD t (128 + j * 256 + x) 0 ≡ sumOver (λ i. weight d (j * 8 + i)) (digits 8 x)
+-- entry 256 + 256 j + x, for j below 16: the weights of the cells 8 j + i, summed over the bits i of x
+abbrev pub Sums : Degree → List ℕ → Type 0
+Sums d t = ByteSums (λ i. weight d i) 256 16 t
 
--- the table of places, from entry 2176 on: at degree 6 alone
+-- the table of places, from entry 4352 on: at degree 6 alone
 abbrev pub Placed : Degree → List ℕ → Type 0
 Placed Four t = Unit {0}
-Placed Six t = Places Six 2176 t
+Placed Six t = Places Six 4352 t
+Placed Seven t = Unit {0}
 
-pub record Tables (d : Degree) (t : List ℕ) : Type 0 where
-  pub long : length t ≡ 6272
+-- what is made of the powers, and at the end their number
+pub record Filled (d : Degree) (t : List ℕ) : Type 0 where
   pub weights : Weights d t
   pub logs : Logs d t
-  pub sums : Sums d 8 t
+  pub sums : Sums d t
+  pub powers : getD t 8448 0 ≡ order d
+
+pub record Tables (d : Degree) (t : List ℕ) : Type 0 where
+  pub long : length t ≡ 8449
+  pub filled : Filled d t
   pub places : Placed d t

@@ -11,6 +11,7 @@ use Rattle.degree.specs.Degree.{size}
 use Rattle.line.specs.declared.side.Side.{Side}
 use Rattle.line.specs.declared.side.Side.the-variants as side
 use Rattle.line.specs.declared.bounded.Tried.{Tried}
+use Rattle.line.specs.declared.clause.Both.{Both}
 use Rattle.line.specs.declared.clause.Trial.{Trial}
 use Rattle.line.specs.declared.clause.Seen.{Seen}
 use Rattle.line.specs.declared.clause.Base.{Base}
@@ -19,7 +20,7 @@ use Rattle.line.specs.Bounded.{bounded}
 use Rattle.line.specs.Decoding.{decoded, message}
 use Rattle.line.specs.Clauses.{reach, same, answerCell, after, cost, clause}
 use Rattle.line.specs.working.Packed.{Packs, PacksWord}
-use Rattle.line.specs.working.Word.{value}
+use Rattle.words.specs.working.Word.{value}
 use Rattle.line.specs.working.Tries.{Decodes}
 
 module _ (d : Degree) (ys rs : List ℕ) (f : ℕ) where
@@ -63,13 +64,19 @@ stays h k =
     let before = bitAt (value (h .before)) k in
     ltb (h .tried .changed) radius || (eqb before (bitAt (value (h .channel)) k) || not (eqb (bitAt (value (h .tried .word)) k) before))
 
+-- both fillings of a line tried, where it has few erasures, and counted
+pub record BothOf (d : Degree) (ys : List ℕ) (f : ℕ) (t : Both) : Type 0 where
+  pub one : few ys ≡ true → Decodes d (filled side.One ys f) (t .one)
+  pub two : few ys ≡ true → Decodes d (filled side.Two ys f) (t .two)
+  pub count : t .count ≡ cond (few ys) 2 0
+
 -- both fillings decoded to one codeword
-abbrev pub oneCodeword : Base → Bool
-oneCodeword b = (b .one .tried .found && b .two .tried .found) && eqb (value (b .one .tried .word)) (value (b .two .tried .word))
+abbrev pub oneCodeword : Tried → Tried → Bool
+oneCodeword one two = (one .found && two .found) && eqb (value (one .word)) (value (two .word))
 
 -- both fillings decoded to one codeword nearer than the radius, and one erasure more is not too many
-abbrev pub quiet : Base → Bool
-quiet b = (ltb (b .erased) (designedDistance - 1) && (ltb (b .one .tried .changed) radius && ltb (b .two .tried .changed) radius)) && oneCodeword b
+abbrev pub quiet : (erased : ℕ) → Both → Bool
+quiet erased t = (ltb erased (designedDistance - 1) && (ltb (t .one .changed) radius && ltb (t .two .changed) radius)) && oneCodeword (t .one) (t .two)
 
 -- the answer of a filling
 abbrev pub triedOf : Base → Side → Tried

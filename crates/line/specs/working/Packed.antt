@@ -7,9 +7,9 @@ use lib.Dec.{eqb}
 use lib.ListN.{getD}
 use Rattle.line.specs.declared.side.Side.{Side}
 use Rattle.line.specs.declared.side.Side.the-variants.{One, Two}
-use Rattle.line.specs.declared.word.Word.{Word}
+use Rattle.words.specs.declared.word.Word.{Word}
 use Rattle.line.specs.declared.packed.Line.{Line}
-use Rattle.line.specs.working.Word.{value, width, noCells}
+use Rattle.words.specs.working.Word.{value, width, noCells}
 use Rattle.line.specs.Cells.{Cells, bit, isErased}
 
 -- a line of n cells, which are 0, 1 or 2

@@ -19,4 +19,4 @@ pub record SentRow (d : Degree) (old channel : Line) (filling : ℕ) (before aft
   pub line : (rs : List ℕ) → Packs (size d) before old → Packs (size d) rs channel → Packs (size d) (messages (bounded d) before rs filling) (s .line)
   pub count : (rs : List ℕ) → Packs (size d) before old → Packs (size d) rs channel → s .count ≡ count (bounded d) before rs filling
   -- whatever the lines pack
-  pub most : s .count ≤ 130
+  pub most : s .count ≤ 258

@@ -12,7 +12,7 @@ use Rattle.line.specs.declared.bounded.Tried.{Tried}
 use Rattle.line.specs.Bounded.{Answer, Found, Failed, bounded, changed}
 use Rattle.line.specs.Cells.{flip}
 use Rattle.line.specs.working.Packed.{PacksWord}
-use Rattle.line.specs.working.Word.{value}
+use Rattle.words.specs.working.Word.{value}
 
 -- what is found for a word, from the error positions and whether its ones are even in number: the cells at the positions are
 -- flipped, and the last cell too where the ones would stay odd in number, as long as that makes at most two

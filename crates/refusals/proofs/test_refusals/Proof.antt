@@ -5,10 +5,10 @@ use Rattle.refusals.proofs.test_refusals.Statement.{statement}
 use Rattle.refusals.proofs.test_refusals.Tie as tie
 
 abbrev Inv-loop : tie.InvT-loop
-Inv-loop entry many tally₀ t₀ tally t = t ≤ many
+Inv-loop entry lot many tally₀ t₀ tally t = t ≤ many
 
 abbrev μ-loop : tie.MeasureT-loop
-μ-loop entry many tally₀ t₀ tally t = many - t
+μ-loop entry lot many tally₀ t₀ tally t = many - t
 
 pub test-refusals-spec : {M : Type 1} → statement M
 test-refusals-spec =

@@ -13,9 +13,9 @@ use Rattle.second.specs.working.Loops.{written}
 abbrev pub placeOf : (n i j : ℕ) → ℕ
 placeOf n i j = cond (ltb i n) (i * n + j) (j * n + (i - n))
 
--- line i, in a room of 64 cells
+-- line i, in a room of 128 cells
 unfoldable pub takenLine : (n i : ℕ) (cells : List ℕ) → List ℕ
-takenLine n i cells = written (λ j. j) (λ j. getD cells (placeOf n i j) 0) n (replicate 64 0)
+takenLine n i cells = written (λ j. j) (λ j. getD cells (placeOf n i j) 0) n (replicate 128 0)
 
 -- the array with another line i
 unfoldable pub withLine : (n i : ℕ) (line cells : List ℕ) → List ℕ

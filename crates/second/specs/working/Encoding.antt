@@ -3,29 +3,22 @@ use mathlib.Core.Bool.{cond}
 use mathlib.Core.List.{List}
 use Prim.Native.Nat.{ℕ, zero, suc, _+_, _-_, _*_, _/_, _%_, _^_}
 use lib.Bits.{bitXor}
-use lib.Dec.{eqb, ltb}
+use lib.Dec.{ltb}
 use lib.ListN.{getD, set}
 use Rattle.laws.specs.Sums.{sumTo}
 use Rattle.second.specs.working.Loops.{written}
+use Rattle.second.specs.working.Codes.{degreeOf, generatorOf}
 use Rattle.second.specs.working.Lines.{isLike}
 use Rattle.second.specs.working.Arrays.{takenLine, withLine}
 
 -- 2v
 abbrev pub firstOf : (n : ℕ) → ℕ
-firstOf n = cond (eqb n 16) 8 12
+firstOf n = 2 * degreeOf n
 
--- the generator polynomial, bit i the coefficient of x^i
-abbrev pub generatorOf : (n : ℕ) → ℕ
-generatorOf n = cond (eqb n 16) 465 5433
-
--- x^(2v)
-abbrev pub topOf : (n : ℕ) → ℕ
-topOf n = cond (eqb n 16) 256 4096
-
--- one step of the division
+-- one step of the division: n times n stands for x^(2v)
 abbrev pub divided : (n rest coefficient : ℕ) → ℕ
 divided n rest coefficient =
-    cond (ltb (2 * rest + coefficient) (topOf n)) (2 * rest + coefficient) (bitXor (2 * rest + coefficient) (generatorOf n) % 4096)
+    cond (ltb (2 * rest + coefficient) (n * n)) (2 * rest + coefficient) (bitXor (2 * rest + coefficient) (generatorOf n) % 16384)
 
 -- the coefficient of x^i: cell i, or 0 for a check cell
 abbrev pub coefficientOf : (n i : ℕ) (line : List ℕ) → ℕ
@@ -50,10 +43,14 @@ unfoldable pub encodedTo : (n k : ℕ) (cells : List ℕ) → List ℕ
 encodedTo n zero cells = cells
 encodedTo n (suc k) cells = withLine n k (encodedLine n (takenLine n k (encodedTo n k cells))) (encodedTo n k cells)
 
+-- k
+abbrev pub messageCells : (n : ℕ) → ℕ
+messageCells n = n - 1 - firstOf n
+
 -- k by k
 abbrev pub messageArea : (n : ℕ) → ℕ
-messageArea n = cond (eqb n 16) 49 2601
+messageArea n = messageCells n * messageCells n
 
 -- the place of message cell p in its array
 abbrev pub messagePlace : (n p : ℕ) → ℕ
-messagePlace n p = cond (eqb n 16) ((8 + p / 7) * 16 + (8 + p % 7)) ((12 + p / 51) * 64 + (12 + p % 51)) % 4096
+messagePlace n p = ((firstOf n + p / messageCells n) * n + (firstOf n + p % messageCells n)) % 16384

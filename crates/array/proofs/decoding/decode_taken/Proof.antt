@@ -4,6 +4,7 @@
 use mathlib.Core.Path.{refl, ap, _∙_}
 use lib.ListN.{length}
 use borrow.Author.Needs.{needs}
+use Rattle.array.specs.Plain.{fillings}
 use Rattle.array.proofs.ReportLaws.{decoded}
 use Rattle.array.proofs.decoding.decode_taken.Statement.{statement}
 use Rattle.array.proofs.decoding.decode_taken.Tie as tie
@@ -33,7 +34,7 @@ returns c =
     let run = c .before .before .before .before in
     let pack = run .before .before .before .before .before .before .before in
     let args = pack .before .before .before .before .before .before .before .before .before .args in
-    decoded (args .d) (args .iterations) (args .received .now) (args .filling .now) (pack .before .before .before .before .copy-cells .ensures) (pack .pack-rows .ensures) (run .before .before .before .before .before .transpose-rows .ensures) refl (run .run .ensures) (c .report-of .ensures)
+    decoded (args .d) (args .iterations) (args .received .now) (fillings (args .filling .now)) (pack .before .before .before .before .copy-cells .ensures) (pack .pack-rows .ensures) (run .before .before .before .before .before .transpose-rows .ensures) refl (run .run .ensures) (c .report-of .ensures)
 
 pub decode-taken-spec : {M : Type 1} → statement M
 decode-taken-spec =

@@ -40,14 +40,8 @@ encoded-word-requires c κs =
     let p = c .before .before .before .before .before .before .pre in
     (p .0, encoding-cells (c .before .before .loop .inv) (c .before .loop-test .taken) (p .1))
 
-to-number-requires : tie.Need-to-number-requires Inv-loop μ-loop
-to-number-requires c κs = tt
-
-mul-words : tie.Need-mul-words Inv-loop μ-loop
-mul-words c = omega arith
-
-slice-write-words : tie.Need-slice-write-words Inv-loop μ-loop
-slice-write-words c =
+put-word-requires : tie.Need-put-word-requires Inv-loop μ-loop
+put-word-requires c κs =
     let q = c .before .before .before .before in
     encoding-word (q .loop .inv) (c .before .before .before .loop-test .taken) (q .before .before .before .before .pre .2)
 
@@ -59,9 +53,9 @@ loop-less c = omega arith
 
 loop-again : tie.Need-loop-again Inv-loop μ-loop
 loop-again c =
-    let q = c .before .before .before .before in
-    encoding-next (q .loop .inv) (c .before .before .before .loop-test .taken) (q .before .before .before .before .pre .2)
-    (c .to-number .result) (c .to-number .ensures) (c .before .encoded-word .ensures)
+    let p = c .before .before in
+    let q = p .before .before .before .before .before in
+    rw (p .put-word .ensures) (encoding-next (q .loop .inv) (p .before .before .before .before .loop-test .taken) (q .before .before .before .before .pre .2) _ (p .before .before .encoded-word .ensures))
 
 same-length : tie.Need-same-length Inv-loop μ-loop
 same-length c = c .before .loop .inv .long
@@ -82,9 +76,7 @@ encode-rows-spec =
     part-encoded-word-start
     part-encoded-word-end
     encoded-word-requires
-    to-number-requires
-    mul-words
-    slice-write-words
+    put-word-requires
     add-a
     loop-less
     loop-again

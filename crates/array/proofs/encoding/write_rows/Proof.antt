@@ -20,8 +20,8 @@ abbrev μ-loop : tie.MeasureT-loop
 μ-loop n k units words cells₀ i₀ at₀ cells i at = n - i
 
 -- what is spread beside a word of 0 are the digits of the other
-written : {m n low sum : ℕ} → m ≡ n → low ≡ sum → pairsOf m low 0 ≡ digits n sum
-written {n} {sum} e s = rw (e, s) (pairs-digits n sum)
+written : {m n word none sum : ℕ} → m ≡ n → word ≡ sum → none ≡ 0 → pairsOf m word none ≡ digits n sum
+written {n} {sum} e s z = rw (e, s, z) (pairs-digits n sum)
 
 loop-holds : tie.Need-loop-holds Inv-loop μ-loop
 loop-holds c = lining-start (λ j z. digits-length _ _) (omega (arith, c .before .before .pre .4))
@@ -31,12 +31,15 @@ add-end c =
     omega (arith, lining-room (c .before .loop .inv) (c .loop-test .taken), square-le _ (c .before .before .before .before .pre .2))
 
 cast-chosen-sum : tie.Need-cast-chosen-sum Inv-loop μ-loop
-cast-chosen-sum c = omega (arith, c .before .before .before .before .pre .2)
+cast-chosen-sum c = omega (arith, c .before .before .before .before .before .pre .2)
 
 chosen-sum-requires : tie.Need-chosen-sum-requires Inv-loop μ-loop
 chosen-sum-requires c κs =
-    let p = c .before .before .before .before .pre in
-    (p .0, p .1, omega (arith, p .2))
+    let p = c .before .before .before .before .before .pre in
+    (p .0, omega arith, p .1, omega (arith, p .2))
+
+zero-word-requires : tie.Need-zero-word-requires Inv-loop μ-loop
+zero-word-requires c κs = tt
 
 sub-spread-pair : tie.Need-sub-spread-pair Inv-loop μ-loop
 sub-spread-pair c = omega arith
@@ -45,12 +48,12 @@ part-spread-pair-start : tie.Need-part-spread-pair-start Inv-loop μ-loop
 part-spread-pair-start c = omega arith
 
 part-spread-pair-end : tie.Need-part-spread-pair-end Inv-loop μ-loop
-part-spread-pair-end c = lining-free (c .before .before .loop .inv) (c .before .loop-test .taken)
+part-spread-pair-end c = lining-free (c .before .before .before .before .loop .inv) (c .before .before .before .loop-test .taken)
 
 spread-pair-requires : tie.Need-spread-pair-requires Inv-loop μ-loop
 spread-pair-requires c κs =
-    let q = c .before .before .before in
-    omega (arith, lining-part (q .loop .inv) (c .before .before .loop-test .taken), q .before .before .before .pre .3)
+    let q = c .before .before .before .before .before in
+    omega (arith, lining-part (q .loop .inv) (c .before .before .before .before .loop-test .taken), q .before .before .before .pre .3)
 
 add-i : tie.Need-add-i Inv-loop μ-loop
 add-i c = omega arith
@@ -61,9 +64,9 @@ loop-less c = omega arith
 loop-again : tie.Need-loop-again Inv-loop μ-loop
 loop-again c =
     let q = c .before .before in
-    let w = q .before .before .before .before .loop .inv in
-    let h = q .before .before .before .loop-test .taken in
-    lining-put w h _ (q .spread-pair .ensures ∙ written (lining-part w h) (q .before .before .chosen-sum .ensures))
+    let w = q .before .before .before .before .before .before .loop .inv in
+    let h = q .before .before .before .before .before .loop-test .taken in
+    lining-put w h _ (q .spread-pair .ensures ∙ written (lining-part w h) (q .before .before .before .chosen-sum .ensures) (q .before .before .zero-word .ensures))
 
 same-length : tie.Need-same-length Inv-loop μ-loop
 same-length c = lining-length (c .before .loop .inv)
@@ -81,6 +84,7 @@ write-rows-spec =
     add-end
     cast-chosen-sum
     chosen-sum-requires
+    zero-word-requires
     sub-spread-pair
     part-spread-pair-start
     part-spread-pair-end

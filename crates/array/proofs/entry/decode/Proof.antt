@@ -14,7 +14,7 @@ enum-known-call : tie.Need-enum-known-call
 enum-known-call c = search needs
 
 put-line-tables-requires : tie.Need-put-line-tables-requires
-put-line-tables-requires c κs = zeros-at 6272
+put-line-tables-requires c κs = zeros-at 8449
 
 decode-taken-requires : tie.Need-decode-taken-requires
 decode-taken-requires c κs =

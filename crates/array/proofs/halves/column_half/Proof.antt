@@ -1,6 +1,7 @@
 -- `halves::column_half` meets its contract: a row half of the transposed array, transposed back.
 -- Assumes nothing.
 use borrow.Author.Needs.{needs}
+use Rattle.array.specs.Plain.{fillings}
 use Rattle.array.proofs.HalfLaws.{columns-done}
 use Rattle.array.proofs.halves.column_half.Statement.{statement}
 use Rattle.array.proofs.halves.column_half.Tie as tie
@@ -24,7 +25,7 @@ returns : tie.Need-returns
 returns c =
     let back = c .before .before .before .before .before .before in
     let args = back .before .before .before .before .before .before .before .before .before .args in
-    columns-done (args .d) (args .filling .now) (back .before .before .before .before .transpose-rows .ensures) (back .before .before .send-columns .ensures) (back .transpose-rows2 .ensures) (c .before .before .write-rows .ensures)
+    columns-done (args .d) (fillings (args .filling .now)) (back .before .before .before .before .transpose-rows .ensures) (back .before .before .send-columns .ensures) (back .transpose-rows2 .ensures) (c .before .before .write-rows .ensures)
 
 pub column-half-spec : {M : Type 1} → statement M
 column-half-spec =

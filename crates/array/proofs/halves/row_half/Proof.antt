@@ -6,13 +6,14 @@ use mathlib.Core.Path.{sym, _∙_}
 use native.Mathlib.Omega.{arith}
 use lib.ListN.{length}
 use borrow.Author.Needs.{needs}
+use Rattle.array.specs.Plain.{fillings}
 use Rattle.array.proofs.PackedLaws.{index-room}
 use Rattle.array.proofs.HalfLaws.{RowsAt, rows-start, rows-room, rows-lent, rows-next, rows-end}
 use Rattle.array.proofs.halves.row_half.Statement.{statement}
 use Rattle.array.proofs.halves.row_half.Tie as tie
 
 abbrev Inv-loop : tie.InvT-loop
-Inv-loop d cells₀ channel rows₀ filling tables n count₀ i₀ at₀ cells rows count i at = RowsAt d cells₀ rows₀ channel filling cells rows count i at
+Inv-loop d cells₀ channel rows₀ filling tables n count₀ i₀ at₀ cells rows count i at = RowsAt d cells₀ rows₀ channel (fillings filling) cells rows count i at
 
 abbrev μ-loop : tie.MeasureT-loop
 μ-loop d cells₀ channel rows₀ filling tables n count₀ i₀ at₀ cells rows count i at = n - i
@@ -24,9 +25,9 @@ room c = rows-room (c .before .loop .inv) (c .before .before .size-of .ensures) 
 next : tie.Need-loop-again Inv-loop μ-loop
 next c =
     let sent = c .before .before .before .before .before in
-    let loop = sent .before .before .before .before .before .before .before .before in
-    rows-next (loop .loop .inv) (loop .before .size-of .ensures) (sent .before .before .before .before .before .before .before .loop-test .taken) (sent .before .before .before .before .before .line-in .ensures) (sent .before .before .before .before .line-in2 .ensures)
-    (rw (sent .before .before .of-number .ensures) at (sent .send-row .ensures)) (c .before .put-line .ensures)
+    let loop = sent .before .before .before .before .before .before .before in
+    rows-next (loop .loop .inv) (loop .before .size-of .ensures) (sent .before .before .before .before .before .before .loop-test .taken) (sent .before .before .before .before .line-in .ensures) (sent .before .before .before .line-in2 .ensures)
+    (rw (sent .before .before .filling-word .ensures) at (sent .send-row .ensures)) (c .before .put-line .ensures)
 
 size-of-requires : tie.Need-size-of-requires Inv-loop μ-loop
 size-of-requires c κs = search needs
@@ -43,14 +44,8 @@ line-in-requires c κs = omega (arith, index-room (c .before .before .before .be
 line-in-requires-2 : tie.Need-line-in-requires-2 Inv-loop μ-loop
 line-in-requires-2 c κs = index-room (c .before .before .before .before .before .before .before .args .d) (c .before .before .before .before .size-of .ensures) (c .before .before .loop-test .taken)
 
-mul-of-number : tie.Need-mul-of-number Inv-loop μ-loop
-mul-of-number c = omega arith
-
-shared-slice-read-of-number : tie.Need-shared-slice-read-of-number Inv-loop μ-loop
-shared-slice-read-of-number c = omega arith
-
-of-number-requires : tie.Need-of-number-requires Inv-loop μ-loop
-of-number-requires c κs = tt
+filling-word-requires : tie.Need-filling-word-requires Inv-loop μ-loop
+filling-word-requires c κs = omega arith
 
 sub-send-row : tie.Need-sub-send-row Inv-loop μ-loop
 sub-send-row c = omega arith
@@ -59,18 +54,22 @@ part-send-row-start : tie.Need-part-send-row-start Inv-loop μ-loop
 part-send-row-start c = omega arith
 
 part-send-row-end : tie.Need-part-send-row-end Inv-loop μ-loop
-part-send-row-end c = omega (arith, room (c .before .before .before .before .before))
+part-send-row-end c = omega (arith, room (c .before .before .before .before))
 
 send-row-requires : tie.Need-send-row-requires Inv-loop μ-loop
 send-row-requires c κs =
-    let loop = c .before .before .before .before .before .before .before in
-    (rows-lent (loop .loop .inv) (loop .before .size-of .ensures) (c .before .before .before .before .before .before .loop-test .taken), loop .before .before .before .before .pre .2)
+    let loop = c .before .before .before .before .before .before in
+    (rows-lent (loop .loop .inv) (loop .before .size-of .ensures) (c .before .before .before .before .before .loop-test .taken), loop .before .before .before .before .pre .2)
 
 put-line-requires : tie.Need-put-line-requires Inv-loop μ-loop
-put-line-requires c κs = index-room (c .before .before .before .before .before .before .before .before .before .before .before .before .before .before .before .args .d) (c .before .before .before .before .before .before .before .before .before .before .before .before .size-of .ensures) (c .before .before .before .before .before .before .before .before .before .before .loop-test .taken)
+put-line-requires c κs =
+    let loop = c .before .before .before .before .before .before .before .before .before .before in
+    index-room (loop .before .before .before .before .args .d) (loop .before .size-of .ensures) (c .before .before .before .before .before .before .before .before .before .loop-test .taken)
 
 add-count : tie.Need-add-count Inv-loop μ-loop
-add-count c = omega (arith, next c .small, index-room (c .before .before .before .before .before .before .before .before .before .before .before .before .before .before .before .before .before .args .d) (c .before .before .before .before .before .before .before .before .before .before .before .before .before .before .size-of .ensures) (c .before .before .before .before .before .before .before .before .before .before .before .before .loop-test .taken))
+add-count c =
+    let loop = c .before .before .before .before .before .before .before .before .before .before .before .before in
+    omega (arith, next c .small, index-room (loop .before .before .before .before .args .d) (loop .before .size-of .ensures) (c .before .before .before .before .before .before .before .before .before .before .before .loop-test .taken))
 
 add-i : tie.Need-add-i Inv-loop μ-loop
 add-i c = omega arith
@@ -98,9 +97,7 @@ row-half-spec =
     add-end
     line-in-requires
     line-in-requires-2
-    mul-of-number
-    shared-slice-read-of-number
-    of-number-requires
+    filling-word-requires
     sub-send-row
     part-send-row-start
     part-send-row-end

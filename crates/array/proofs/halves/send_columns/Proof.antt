@@ -4,13 +4,14 @@
 use Prim.Native.Nat.{_-_}
 use native.Mathlib.Omega.{arith}
 use borrow.Author.Needs.{needs}
+use Rattle.array.specs.Plain.{fillings}
 use Rattle.array.proofs.PackedLaws.{index-room}
 use Rattle.array.proofs.HalfLaws.{ColumnsAt, columns-start, columns-next, columns-end}
 use Rattle.array.proofs.halves.send_columns.Statement.{statement}
 use Rattle.array.proofs.halves.send_columns.Tie as tie
 
 abbrev Inv-loop : tie.InvT-loop
-Inv-loop d channel columns₀ filling tables n count₀ j₀ columns count j = ColumnsAt d columns₀ channel filling columns count j
+Inv-loop d channel columns₀ filling tables n count₀ j₀ columns count j = ColumnsAt d columns₀ channel (fillings filling) columns count j
 
 abbrev μ-loop : tie.MeasureT-loop
 μ-loop d channel columns₀ filling tables n count₀ j₀ columns count j = n - j
@@ -18,9 +19,9 @@ abbrev μ-loop : tie.MeasureT-loop
 next : tie.Need-loop-again Inv-loop μ-loop
 next c =
     let sent = c .before .before .before in
-    let loop = sent .before .before .before .before .before .before .before in
-    columns-next (loop .loop .inv) (loop .before .size-of .ensures) (sent .before .before .before .before .before .before .loop-test .taken) (sent .before .before .before .before .line-in .ensures) (sent .before .before .before .line-in2 .ensures)
-    (rw (sent .before .of-number .ensures) at (sent .messages-of .ensures)) (c .before .put-line .ensures)
+    let loop = sent .before .before .before .before .before .before in
+    columns-next (loop .loop .inv) (loop .before .size-of .ensures) (sent .before .before .before .before .before .loop-test .taken) (sent .before .before .before .line-in .ensures) (sent .before .before .line-in2 .ensures)
+    (rw (sent .before .filling-word .ensures) at (sent .messages-of .ensures)) (c .before .put-line .ensures)
 
 size-of-requires : tie.Need-size-of-requires Inv-loop μ-loop
 size-of-requires c κs = search needs
@@ -34,23 +35,21 @@ line-in-requires c κs = index-room (c .before .before .before .before .before .
 line-in-requires-2 : tie.Need-line-in-requires-2 Inv-loop μ-loop
 line-in-requires-2 c κs = index-room (c .before .before .before .before .before .before .args .d) (c .before .before .before .before .size-of .ensures) (c .before .before .loop-test .taken)
 
-mul-of-number : tie.Need-mul-of-number Inv-loop μ-loop
-mul-of-number c = omega arith
-
-shared-slice-read-of-number : tie.Need-shared-slice-read-of-number Inv-loop μ-loop
-shared-slice-read-of-number c = omega arith
-
-of-number-requires : tie.Need-of-number-requires Inv-loop μ-loop
-of-number-requires c κs = tt
+filling-word-requires : tie.Need-filling-word-requires Inv-loop μ-loop
+filling-word-requires c κs = omega arith
 
 messages-of-requires : tie.Need-messages-of-requires Inv-loop μ-loop
-messages-of-requires c κs = c .before .before .before .before .before .before .before .before .before .pre .1
+messages-of-requires c κs = c .before .before .before .before .before .before .before .before .pre .1
 
 put-line-requires : tie.Need-put-line-requires Inv-loop μ-loop
-put-line-requires c κs = index-room (c .before .before .before .before .before .before .before .before .before .before .before .args .d) (c .before .before .before .before .before .before .before .before .before .size-of .ensures) (c .before .before .before .before .before .before .before .loop-test .taken)
+put-line-requires c κs =
+    let loop = c .before .before .before .before .before .before .before in
+    index-room (loop .before .before .before .args .d) (loop .before .size-of .ensures) (c .before .before .before .before .before .before .loop-test .taken)
 
 add-count : tie.Need-add-count Inv-loop μ-loop
-add-count c = omega (arith, next c .small, index-room (c .before .before .before .before .before .before .before .before .before .before .before .before .before .args .d) (c .before .before .before .before .before .before .before .before .before .before .before .size-of .ensures) (c .before .before .before .before .before .before .before .before .before .loop-test .taken))
+add-count c =
+    let loop = c .before .before .before .before .before .before .before .before .before in
+    omega (arith, next c .small, index-room (loop .before .before .before .args .d) (loop .before .size-of .ensures) (c .before .before .before .before .before .before .before .before .loop-test .taken))
 
 add-j : tie.Need-add-j Inv-loop μ-loop
 add-j c = omega arith
@@ -74,9 +73,7 @@ send-columns-spec =
     loop-holds
     line-in-requires
     line-in-requires-2
-    mul-of-number
-    shared-slice-read-of-number
-    of-number-requires
+    filling-word-requires
     messages-of-requires
     put-line-requires
     add-count

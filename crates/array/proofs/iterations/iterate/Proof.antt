@@ -14,6 +14,9 @@ row-half-requires c κs = search needs
 mul-column-half : tie.Need-mul-column-half
 mul-column-half c = search needs
 
+mul-column-half-2 : tie.Need-mul-column-half-2
+mul-column-half-2 c = search needs
+
 sub-column-half : tie.Need-sub-column-half
 sub-column-half c = search needs
 
@@ -47,6 +50,7 @@ iterate-spec =
     size-of-requires
     row-half-requires
     mul-column-half
+    mul-column-half-2
     sub-column-half
     part-column-half-start
     part-column-half-end

@@ -1,7 +1,7 @@
 -- `iterations::run` meets its contract. The loop's invariant: what is left of the plain decoding, from the array at hand on, ends
 -- with what all of it ends with. The measure is the iterations left.
 -- Assumes nothing.
-use Prim.Native.Nat.{_+_, _-_, _≤_}
+use Prim.Native.Nat.{_+_, _-_, _*_, _≤_}
 use mathlib.Core.Path.{_∙_}
 use native.Mathlib.Omega.{arith}
 use lib.ListN.{length}
@@ -20,9 +20,9 @@ abbrev μ-loop : tie.MeasureT-loop
 
 -- the filling words of the iteration at hand are there
 room : (c : tie.In-loop Inv-loop μ-loop)
-    → (c .before .loop .at + (size (c .before .before .before .before .before .args .d) + size (c .before .before .before .before .before .args .d)) ≤ length (c .before .before .before .before .before .args .filling .now))
-    × (c .before .loop .at + (c .before .before .size-of .result + c .before .before .size-of .result) ≤ length (c .before .before .before .before .before .args .filling .now))
-    × (c .before .loop .at + (c .before .before .size-of .result + c .before .before .size-of .result) ≤ 2560)
+    → (c .before .loop .at + 4 * size (c .before .before .before .before .before .args .d) ≤ length (c .before .before .before .before .before .args .filling .now))
+    × (c .before .loop .at + 4 * c .before .before .size-of .result ≤ length (c .before .before .before .before .before .args .filling .now))
+    × (c .before .loop .at + 4 * c .before .before .size-of .result ≤ 10240)
 room c =
     let start = c .before .before .before .before .before in
     run-room (c .before .loop .inv) (c .before .before .size-of .ensures) (start .pre .1) (c .loop-test .taken) (start .pre .2)
@@ -59,11 +59,11 @@ iterate-requires c κs =
 add-count : tie.Need-add-count Inv-loop μ-loop
 add-count c = omega (arith, next c .small)
 
+mul-at : tie.Need-mul-at Inv-loop μ-loop
+mul-at c = omega (arith, room (c .before .before .before .before .before .before) .2)
+
 add-at : tie.Need-add-at Inv-loop μ-loop
 add-at c = omega (arith, room (c .before .before .before .before .before .before) .2)
-
-add-at-2 : tie.Need-add-at-2 Inv-loop μ-loop
-add-at-2 c = omega (arith, room (c .before .before .before .before .before .before) .2)
 
 add-k : tie.Need-add-k Inv-loop μ-loop
 add-k c = omega arith
@@ -94,8 +94,8 @@ run-spec =
     part-iterate-end
     iterate-requires
     add-count
+    mul-at
     add-at
-    add-at-2
     add-k
     loop-less
     loop-again

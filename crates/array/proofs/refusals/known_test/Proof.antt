@@ -10,11 +10,11 @@ use Rattle.array.proofs.refusals.known_test.Tie as tie
 size-of-requires : tie.Need-size-of-requires
 size-of-requires c κs = search needs
 
-mul-words : tie.Need-mul-words
-mul-words c = omega (arith, few-iterations (c .before .before .before .before .before .args .iterations) (c .before .if1 .left))
+mul-numbers : tie.Need-mul-numbers
+mul-numbers c = omega (arith, few-iterations (c .before .before .before .before .before .args .iterations) (c .before .if1 .left))
 
-mul-words-2 : tie.Need-mul-words-2
-mul-words-2 c =
+mul-numbers-2 : tie.Need-mul-numbers-2
+mul-numbers-2 c =
     let s = c .before .before .before .before .before .args in
     omega (arith, words-room (s .d) (c .size-of .result) (s .iterations) (c .size-of .ensures) (few-iterations (s .iterations) (c .before .if1 .left) .1))
 
@@ -43,8 +43,8 @@ known-test-spec =
     tie.close
     (tie.spec
     size-of-requires
-    mul-words
-    mul-words-2
+    mul-numbers
+    mul-numbers-2
     mul-wrong
     mul-wrong-2
     lent-test-requires

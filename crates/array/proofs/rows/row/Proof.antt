@@ -26,7 +26,7 @@ size-of-requires c κs = search needs
 -- the row lies within the cells, and its end fits
 within : (c : tie.After-size-of)
     → (c .before .before .before .before .before .before .args .index * c .size-of .result + c .size-of .result ≤ length (c .before .before .before .before .before .before .args .cells .now))
-    × (length (c .before .before .before .before .before .before .args .cells .now) ≤ 4096)
+    × (length (c .before .before .before .before .before .before .args .cells .now) ≤ 16384)
 within c =
     let q = c .before .before in
     let s = q .before .before .before .before .args in

@@ -8,7 +8,7 @@ use Rattle.damage.proofs.arrays.any_codeword.Tie as tie
 returns : tie.Need-returns
 returns c =
     let made = c .before .before in
-    rw (c .take-line .ensures) (below-taken _ 0 2 _ (omega arith) (made .make-sent .ensures (below-zeros 4096 2 (omega arith))))
+    rw (c .take-line .ensures) (below-taken _ 0 2 _ (omega arith) (made .make-sent .ensures (below-zeros 16384 2 (omega arith))))
 
 pub any-codeword-spec : {M : Type 1} → statement M
 any-codeword-spec =

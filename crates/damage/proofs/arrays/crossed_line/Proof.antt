@@ -23,7 +23,7 @@ crossed-line-spec =
     (tie.spec
     Inv-loop
     μ-loop
-    (λ c. (search needs, λ h. below-zeros 64 3 (search needs)))
+    (λ c. (search needs, λ h. below-zeros 128 3 (search needs)))
     (λ c. search needs)
     (λ c. search needs)
     (λ c κs. search needs)

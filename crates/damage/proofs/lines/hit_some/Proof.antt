@@ -1,6 +1,5 @@
 -- `lines::hit_some` meets its contract. The loop's invariant: the cells are cells still. Assumes nothing.
 use Prim.Native.Nat.{_≤_, _-_}
-use native.Mathlib.Nat.{mod-lt}
 use borrow.Author.Needs.{needs}
 use Rattle.second.specs.working.Loops.{Below}
 use Rattle.damage.proofs.lines.hit_some.Statement.{statement}
@@ -25,8 +24,7 @@ hit-some-spec =
     μ-loop
     (λ c. (search needs, λ h. h))
     (λ c κs. search needs)
-    (λ c. search needs)
-    (λ c κs. (search needs, mod-lt _ (search needs)))
+    (λ c κs. search needs)
     (λ c. search needs)
     (λ c. search needs)
     loop-again

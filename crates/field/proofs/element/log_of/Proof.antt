@@ -19,12 +19,12 @@ element-copy-out-result c = omega (arith, primitive (c .args .d) .room)
 cast-result : tie.Need-cast-result
 cast-result c =
     let s = c .before in
-    omega (arith, log-at (s .args .d) (s .args .tables .now) (s .pre .2 .logs) (s .args .x) (s .pre .0) (s .pre .1) .0, primitive (s .args .d) .room)
+    omega (arith, log-at (s .args .d) (s .args .tables .now) (s .pre .2 .filled .logs) (s .args .x) (s .pre .0) (s .pre .1) .0, primitive (s .args .d) .room)
 
 returns : tie.Need-returns
 returns c =
     let s = c .before in
-    log-at (s .args .d) (s .args .tables .now) (s .pre .2 .logs) (s .args .x) (s .pre .0) (s .pre .1)
+    log-at (s .args .d) (s .args .tables .now) (s .pre .2 .filled .logs) (s .args .x) (s .pre .0) (s .pre .1)
 
 pub log-of-spec : {M : Type 1} → statement M
 log-of-spec = tie.close (tie.spec add-at mul-result element-copy-out-result cast-result returns)

@@ -26,11 +26,11 @@ mul-sums c = omega (arith, primitive (c .args .d) .room)
 add-sums : tie.Need-add-sums Inv-loop μ-loop
 add-sums c = omega (arith, primitive (c .args .d) .room)
 
-order-of-requires : tie.Need-order-of-requires Inv-loop μ-loop
-order-of-requires c κs = search needs
+order-in-requires : tie.Need-order-in-requires Inv-loop μ-loop
+order-in-requires c κs = search needs
 
 sub-last : tie.Need-sub-last Inv-loop μ-loop
-sub-last c = omega (arith, c .order-of .ensures, primitive (c .before .args .d) .three)
+sub-last c = omega (arith, c .order-in .ensures, primitive (c .before .args .d) .three)
 
 second-of-requires : tie.Need-second-of-requires Inv-loop μ-loop
 second-of-requires c κs =
@@ -53,7 +53,7 @@ second-of-requires-2 : tie.Need-second-of-requires-2 Inv-loop μ-loop
 second-of-requires-2 c κs =
     let s = c .before .before .before .before in
     let l = c .before .loop in
-    (s .pre .0, s .pre .2, omega (arith, c .before .before .before .order-of .ensures, going (l .j) (l .i) _ (c .loop-test .taken) .1), s .pre .4)
+    (s .pre .0, s .pre .2, omega (arith, c .before .before .before .order-in .ensures, going (l .j) (l .i) _ (c .loop-test .taken) .1), s .pre .4)
 
 loop-less : tie.Need-loop-less Inv-loop μ-loop
 loop-less c =
@@ -84,7 +84,7 @@ returns-2 c =
     let n = none-next (s .args .d) (s .args .s1) (s .args .s3) (l .i) (l .j) (l .inv .1) (l .inv .2) (c .if1 .left) in
     let o = over (l .j) (l .i) _ (c .before .loop-test .left) (c .if1 .left) in
     pair-unfit (s .args .d) (s .args .s1) (s .args .s3) (s .pre .3)
-    (λ a b h. n a b (omega (arith, o, c .before .before .before .before .order-of .ensures)))
+    (λ a b h. n a b (omega (arith, o, c .before .before .before .before .order-in .ensures)))
 
 pub locate-pair-spec : {M : Type 1} → statement M
 locate-pair-spec =
@@ -94,7 +94,7 @@ locate-pair-spec =
     μ-loop
     mul-sums
     add-sums
-    order-of-requires
+    order-in-requires
     sub-last
     second-of-requires
     loop-holds

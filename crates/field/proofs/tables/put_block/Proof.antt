@@ -70,7 +70,7 @@ returns c =
     let s = c .before .before .before in
     let z : l .b ≡ 8 = omega arith in
     let size : l .size ≡ 256 = rw z at (l .inv .2) in
-    block-kept (s .args .first) (s .args .base) _ 0 _ _ (s .pre .1) (rw size at (l .inv .3))
+    block-kept (s .args .first) (s .args .base) 0 _ _ (s .pre .1) (rw size at (l .inv .3))
 
 pub put-block-spec : {M : Type 1} → statement M
 put-block-spec =

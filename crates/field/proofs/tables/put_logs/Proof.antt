@@ -1,4 +1,4 @@
--- `tables::put_logs` meets its contract: no two powers are equal, so no entry is put twice, and none below 64.
+-- `tables::put_logs` meets its contract: no two powers are equal, so no entry is put twice, and none but from 128 to 255.
 -- Assumes nothing.
 use mathlib.Core.Path.{_≡_, refl}
 use Prim.Native.Nat.{_≤_, _<_, _-_}
@@ -17,9 +17,9 @@ Inv-loop powers table₀ order i₀ table i = (i ≤ order) × (length table ≡
 abbrev μ-loop : tie.MeasureT-loop
 μ-loop powers table₀ order i₀ table i = order - i
 
--- the power that a turn reads is below 64
+-- the power that a turn reads is below 128
 small : (c : tie.After-shared-slice-known2 Inv-loop μ-loop)
-    → (c .before .before .loop .i < order (c .before .before .before .before .before .before .args .d)) × (getD (c .before .before .before .before .before .before .args .powers .now) (c .before .before .loop .i) 0 < 64)
+    → (c .before .before .loop .i < order (c .before .before .before .before .before .before .args .d)) × (getD (c .before .before .before .before .before .before .args .powers .now) (c .before .before .loop .i) 0 < 128)
 small c =
     let s = c .before .before .before .before .before .before in
     let h : c .before .before .loop .i < order (s .args .d) = omega arith in
@@ -76,7 +76,7 @@ returns c =
     let s = c .before .before .before .before .before in
     let l = c .before .loop in
     let z : l .i ≡ order (s .args .d) = omega arith in
-    logs-done (s .args .d) (s .args .powers .now) _ (l .table) (s .pre .0) (s .pre .2) (rw z at (l .inv .2))
+    logs-done (s .args .d) (s .args .powers .now) _ (l .table) (s .pre .0) (rw z at (l .inv .2))
 
 pub put-logs-spec : {M : Type 1} → statement M
 put-logs-spec =

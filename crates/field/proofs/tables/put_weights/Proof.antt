@@ -18,11 +18,11 @@ Inv-loop d powers table₀ order i₀ cube₀ table i cube = (i ≤ order) × (l
 abbrev μ-loop : tie.MeasureT-loop
 μ-loop d powers table₀ order i₀ cube₀ table i cube = order - i
 
--- the two powers that a turn reads are below 64, and so are the cell and the exponent
+-- the two powers that a turn reads are below 128, and so are the cell and the exponent
 small : (c : tie.After-shared-slice-known3 Inv-loop μ-loop)
-    → (getD (c .before .before .before .before .before .before .before .args .powers .now) (c .before .before .before .loop .i) 0 < 64)
-    × (getD (c .before .before .before .before .before .before .before .args .powers .now) (c .before .before .before .loop .cube) 0 < 64)
-    × (c .before .before .before .loop .i < 64) × (c .before .before .before .loop .cube < 64)
+    → (getD (c .before .before .before .before .before .before .before .args .powers .now) (c .before .before .before .loop .i) 0 < 128)
+    × (getD (c .before .before .before .before .before .before .before .args .powers .now) (c .before .before .before .loop .cube) 0 < 128)
+    × (c .before .before .before .loop .i < 128) × (c .before .before .before .loop .cube < 128)
 small c =
     let s = c .before .before .before .before .before .before .before in
     let l = c .before .before .before .loop in

@@ -1,38 +1,47 @@
 -- `line::bounded::bounded_word` meets its contract: the located positions and the parity say what bounded distance finds.
 -- Assumes nothing.
-use borrow.Author.Needs.{needs}
+use Prim.Native.Nat.{_/_, _%_}
+use native.Mathlib.Omega.{arith}
 use lib.Dec.{eqb}
+use Rattle.line.proofs.RowLaws.{word-place, from-halves}
 use Rattle.line.proofs.Tries.{place-below, tried-bounded}
+use borrow.Author.Needs.{needs}
 use Rattle.line.proofs.bounded.bounded_word.Statement.{statement}
 use Rattle.line.proofs.bounded.bounded_word.Tie as tie
 
-check-sums-requires : tie.Need-check-sums-requires
-check-sums-requires c κs = search needs
+low-of-requires : tie.Need-low-of-requires
+low-of-requires c κs = search needs
 
-place-of-requires : tie.Need-place-of-requires
-place-of-requires c κs = let s = c .check-sums .ensures in (s .0, s .1, c .before .pre)
+high-of-requires : tie.Need-high-of-requires
+high-of-requires c κs = search needs
 
-cast-mend : tie.Need-cast-mend
-cast-mend c = search needs
+word-place-requires : tie.Need-word-place-requires
+word-place-requires c κs = search needs
 
-cast-mend-2 : tie.Need-cast-mend-2
-cast-mend-2 c = search needs
+last-cell-requires : tie.Need-last-cell-requires
+last-cell-requires c κs = search needs
 
-mend-requires : tie.Need-mend-requires
-mend-requires c κs =
-    let d = c .before .before .before .args .d in
-    let s = c .before .before .check-sums in
-    let p = c .before .place-of in
-    (p .ensures .0, s .ensures .2, place-below d (s .result .s1) (s .result .s3) (p .result) (eqb (s .result .parity) 0) (p .ensures .1))
+mended-requires : tie.Need-mended-requires
+mended-requires c κs =
+    let w = c .before .word-place in
+    let a = c .before .before .before .before .args in
+    let p = w .ensures .parity in
+    (omega (arith, p), place-below (a .d) _ _ (w .result % 65536) (eqb (w .result / 65536) 0) (w .ensures .fits), c .last-cell .ensures)
 
 returns : tie.Need-returns
 returns c =
-    let p = c .before .before .place-of in
-    let s = c .before .before .before .check-sums in
-    let d = c .before .before .before .before .args .d in
-    λ ws q. tried-bounded d (p .result) {t = c .mend .result} q (s .ensures .3 ws q) (p .ensures .1) (c .mend .ensures ws q)
+    let a = c .before .before .before .before .before .args in
+    let w = c .before .before .word-place in
+    let n = from-halves (c .before .before .before .before .low-of .ensures) (c .before .before .before .high-of .ensures) in
+    λ ws p. tried-bounded (a .d) (w .result) {t = c .mended .result} p (word-place p (rw n at (w .ensures))) (c .mended .ensures ws p)
 
 pub bounded-word-spec : {M : Type 1} → statement M
 bounded-word-spec =
     tie.close
-    (tie.spec check-sums-requires place-of-requires cast-mend cast-mend-2 mend-requires returns)
+    (tie.spec
+    low-of-requires
+    high-of-requires
+    word-place-requires
+    last-cell-requires
+    mended-requires
+    returns)

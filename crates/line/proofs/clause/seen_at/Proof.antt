@@ -8,7 +8,7 @@ use Rattle.degree.specs.Degree.{size}
 use Rattle.line.specs.Cells.{cell, filled}
 use Rattle.line.specs.Decoding.{replaced}
 use Rattle.line.specs.working.Packed.{PacksWord}
-use Rattle.line.specs.working.Word.{value}
+use Rattle.words.specs.working.Word.{value}
 use Rattle.line.proofs.Reaching.{channel-bit, reach-at, value-at, same-at}
 use Rattle.line.proofs.clause.seen_at.Statement.{statement}
 use Rattle.line.proofs.clause.seen_at.Tie as tie
@@ -40,9 +40,9 @@ returns c =
     let own = c .before .before .word-cell3 .result in
     let is-own : (x : List ℕ) → PacksWord n x (value (a .h .tried .word)) → own ≡ cell x (a .k) = c .before .before .word-cell3 .ensures .1 n in
     record {
-      reach = c .before .reaches .ensures ∙ rw (before, now) (reach-at (a .d) ys rs f (a .k) ly lr hk s (a .h) H own is-own);
+      reach = c .before .reaches .ensures ∙ rw (before, now) (reach-at (a .d) ys rs f (a .k) ly lr hk s (a .h .tried) (H .tried) own is-own);
       same = same-at (a .d) ys rs f (a .k) s before now;
-      value = c .either .ensures ∙ rw e (value-at (a .d) ys rs f (a .k) ly lr hk s (a .h) H own is-own);
+      value = c .either .ensures ∙ rw e (value-at (a .d) ys rs f (a .k) ly lr hk s (a .h .tried) (H .tried) own is-own);
       bit = now;
     }
 

@@ -5,7 +5,7 @@ use mathlib.Core.Path.{refl}
 use native.Mathlib.Omega.{arith}
 use borrow.Author.Needs.{needs}
 use Rattle.line.specs.declared.side.Side.the-variants.{One, Two}
-use Rattle.line.specs.working.Word.{value}
+use Rattle.words.specs.working.Word.{value}
 use Rattle.line.proofs.Choosing.{is-few, is-many}
 use Rattle.line.proofs.EntryLaws.{few-tried, many-tried}
 use Rattle.line.proofs.decoding.try_packed.Statement.{statement}

@@ -8,14 +8,15 @@ use lib.Bits.{bitXor}
 use lib.Dec.{eqb}
 use lib.ListN.{length, getD, take}
 use Rattle.laws.specs.Digits.{sumOver}
-use Rattle.line.specs.working.Word.{value}
+use Rattle.words.specs.working.Grid.{wordIn}
+use Rattle.words.specs.working.Word.{value}
 use Rattle.line.proofs.Bounds.{message-le}
 use Rattle.line.proofs.UnitLaws.{sum-next, sum-encodes}
 use Rattle.line.proofs.encoding.encoded_word.Statement.{statement}
 use Rattle.line.proofs.encoding.encoded_word.Tie as tie
 
 abbrev Inv-loop : tie.InvT-loop
-Inv-loop units message sum₀ a₀ sum a = (a ≤ length message) × (value sum ≡ sumOver (λ j. getD units j 0) (take a message))
+Inv-loop units message sum₀ a₀ sum a = (a ≤ length message) × (value sum ≡ sumOver (λ j. wordIn units 0 j) (take a message))
 
 abbrev μ-loop : tie.MeasureT-loop
 μ-loop units message sum₀ a₀ sum a = length message - a
@@ -30,14 +31,10 @@ loop-holds c = (omega arith, c .zero-word .ensures)
 shared-slice-read-xor-where : tie.Need-shared-slice-read-xor-where Inv-loop μ-loop
 shared-slice-read-xor-where c = omega arith
 
-mul-of-number : tie.Need-mul-of-number Inv-loop μ-loop
-mul-of-number c = omega (arith, message-le (c .before .before .before .before .before .args .d) (c .before .before .before .before .before .pre .1 .long))
-
-element-copy-out-of-number : tie.Need-element-copy-out-of-number Inv-loop μ-loop
-element-copy-out-of-number c = omega (arith, message-le (c .before .before .before .before .before .args .d) (c .before .before .before .before .before .pre .1 .long))
-
-of-number-requires : tie.Need-of-number-requires Inv-loop μ-loop
-of-number-requires c κs = tt
+word-in-requires : tie.Need-word-in-requires Inv-loop μ-loop
+word-in-requires c κs =
+    let s = c .before .before .before .before .before .before in
+    (omega (arith, message-le (s .args .d) (s .pre .1 .long)), rw (s .pre .0 .long) (omega arith))
 
 xor-where-requires : tie.Need-xor-where-requires Inv-loop μ-loop
 xor-where-requires c κs = tt
@@ -54,7 +51,7 @@ loop-again c =
     let s = c .before .before .before .before .before .before .before .before .args in (
       omega arith,
       sum-next (s .units .now) (s .message .now) (l .a) (l .inv .1)
-          (c .xor-where .ensures ∙ ap (λ (u : ℕ). bitXor (value (l .sum)) (cond (eqb (getD (s .message .now) (l .a) 0) 1) u 0)) (c .before .of-number .ensures)),
+          (c .xor-where .ensures ∙ ap (λ (u : ℕ). bitXor (value (l .sum)) (cond (eqb (getD (s .message .now) (l .a) 0) 1) u 0)) (c .before .word-in .ensures)),
     )
 
 returns : tie.Need-returns Inv-loop μ-loop
@@ -71,9 +68,7 @@ encoded-word-spec =
     zero-word-requires
     loop-holds
     shared-slice-read-xor-where
-    mul-of-number
-    element-copy-out-of-number
-    of-number-requires
+    word-in-requires
     xor-where-requires
     add-a
     loop-less

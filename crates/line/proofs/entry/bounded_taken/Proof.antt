@@ -10,7 +10,7 @@ use Rattle.line.proofs.entry.bounded_taken.Statement.{statement}
 use Rattle.line.proofs.entry.bounded_taken.Tie as tie
 
 put-line-tables-requires : tie.Need-put-line-tables-requires
-put-line-tables-requires c κs = zeros-at 6272
+put-line-tables-requires c κs = zeros-at 8449
 
 pack-requires : tie.Need-pack-requires
 pack-requires c κs = let s = c .before .before .before .before in packable (s .args .d) (word-line (s .pre))

@@ -8,20 +8,17 @@ use Rattle.line.proofs.entry.decode_taken.Statement.{statement}
 use Rattle.line.proofs.entry.decode_taken.Tie as tie
 
 put-line-tables-requires : tie.Need-put-line-tables-requires
-put-line-tables-requires c κs = zeros-at 6272
+put-line-tables-requires c κs = zeros-at 8449
 
 pack-requires : tie.Need-pack-requires
 pack-requires c κs = let s = c .before .before .before .before in packable (s .args .d) (s .pre)
-
-of-number-requires : tie.Need-of-number-requires
-of-number-requires c κs = search needs
 
 try-packed-requires : tie.Need-try-packed-requires
 try-packed-requires c κs = search needs
 
 put-found-requires : tie.Need-put-found-requires
 put-found-requires c κs =
-    let s = c .before .before .before .before .before .before .before .before .before .before in
+    let s = c .before .before .before .before .before .before .before .before .before in
     packable (s .args .d) (s .pre) .1
 
 line-answer-requires : tie.Need-line-answer-requires
@@ -34,11 +31,10 @@ returns : tie.Need-returns
 returns c =
     let f = c .before .before .before in
     let t = f .before .before .before in
-    let o = t .before .before in
-    let k = o .before in
+    let k = t .before .before in
     let s = k .before .before .before .before .before in
     let y = sized (s .pre .long) (k .pack .ensures) in
-    let tried = rw (o .of-number .ensures) at (t .try-packed .ensures .1 _ y .0) in
+    let tried = t .try-packed .ensures .1 _ y .0 in
     line-answered tried (c .line-answer .ensures) (f .put-found .ensures _ _ y tried)
 
 pub decode-taken-spec : {M : Type 1} → statement M
@@ -47,7 +43,6 @@ decode-taken-spec =
     (tie.spec
     put-line-tables-requires
     pack-requires
-    of-number-requires
     try-packed-requires
     put-found-requires
     line-answer-requires

@@ -6,7 +6,7 @@ use borrow.Author.Tests.{ltb-true}
 use borrow.Author.Needs.{needs}
 use Rattle.laws.proofs.Tests.{and-true}
 use Rattle.degree.specs.Degree.{size}
-use Rattle.line.specs.working.Word.{value}
+use Rattle.words.specs.working.Word.{value}
 use Rattle.line.specs.Cells.{designedDistance}
 use Rattle.line.proofs.Choosing.{is-few}
 use Rattle.line.proofs.OneCodeword.{own-mask}

@@ -1,86 +1,81 @@
--- `line::messages::messages_of` meets its contract: the cells that are not left in the mask hold their messages, and the count lacks the costs of those that are.
+-- `line::messages::messages_of` meets its contract: one codeword that stays in reach is the message of every cell, else the cells are settled.
 -- Assumes nothing.
-use mathlib.Core.Path.{subst}
-use mathlib.Core.List.{List}
-use Prim.Native.Nat.{ℕ, _+_, _-_, _*_, _≤_}
+use mathlib.Core.Path.{sym, _∙_}
+use Prim.Native.Nat.{_-_}
 use native.Mathlib.Omega.{arith}
-use lib.Bits.{and-le-r}
-use borrow.Author.Needs.{needs}
-use Rattle.laws.proofs.Masks.{sumMask, mask-le}
+use borrow.Author.Tests.{ltb-true}
+use lib.Dec.{ltb}
+use Rattle.laws.proofs.Tests.{and-true}
 use Rattle.degree.specs.Degree.{size}
-use Rattle.line.specs.working.Fillings.{Based}
-use Rattle.line.specs.working.Word.{value, width}
-use Rattle.line.proofs.Walking.{Walk, walk-start, walk-turn, walk-end, some-left, none-left, mask-next}
+use Rattle.words.specs.working.Word.{value}
+use Rattle.line.specs.Cells.{designedDistance, radius}
+use Rattle.line.specs.working.Fillings.{oneCodeword}
+use Rattle.line.proofs.Choosing.{is-few}
+use Rattle.line.proofs.OneCodeword.{quiet-mask, quiet-start}
+use Rattle.line.proofs.Walking.{walk-start, walk-end}
+use borrow.Author.Needs.{needs}
 use Rattle.line.proofs.messages.messages_of.Statement.{statement}
 use Rattle.line.proofs.messages.messages_of.Tie as tie
 
-abbrev Inv-loop : tie.InvT-loop
-Inv-loop d tables b line₀ count₀ left₀ line count left =
-    (count + 2 * sumMask (value left) (λ i. 1) width ≤ 130) × ((ys rs : List ℕ) (f : ℕ) → Based d ys rs f b → Walk d ys rs f line count (value left))
+count-erasures-requires : tie.Need-count-erasures-requires
+count-erasures-requires c κs = search needs
 
-abbrev μ-loop : tie.MeasureT-loop
-μ-loop d tables b line₀ count₀ left₀ line count left = value left
+both-tried-requires : tie.Need-both-tried-requires
+both-tried-requires c κs = search needs
 
-base-of-requires : tie.Need-base-of-requires Inv-loop μ-loop
+is-quiet-requires : tie.Need-is-quiet-requires
+is-quiet-requires c κs = search needs
+
+full-requires : tie.Need-full-requires
+full-requires c κs = search needs
+
+base-of-requires : tie.Need-base-of-requires
 base-of-requires c κs = search needs
 
-left-of-requires : tie.Need-left-of-requires Inv-loop μ-loop
-left-of-requires c κs = tt
+settle-left-requires : tie.Need-settle-left-requires
+settle-left-requires c κs = search needs
 
-loop-holds : tie.Need-loop-holds Inv-loop μ-loop
-loop-holds c =
-    let a = c .before .before .before .args in
-    let b = c .before .before .base-of .ensures in (
-      omega (arith, b .0, mask-le (value (c .left-of .result)) width),
-      λ ys rs f B. walk-start (a .d) ys rs f (B .incoming) (B .channel) B (c .left-of .ensures ys rs f B),
-    )
-
-is-zero-requires : tie.Need-is-zero-requires Inv-loop μ-loop
-is-zero-requires c κs = tt
-
-lowest-requires : tie.Need-lowest-requires Inv-loop μ-loop
-lowest-requires c κs = some-left (c .before .is-zero .ensures) (c .if1 .taken)
-
-message-at-requires : tie.Need-message-at-requires Inv-loop μ-loop
-message-at-requires c κs =
-    (c .lowest .ensures .0, omega (arith, c .before .before .before .loop .inv .0), c .before .before .before .before .before .before .before .pre)
-
-put-requires : tie.Need-put-requires Inv-loop μ-loop
-put-requires c κs = c .before .lowest .ensures .0
-
-rest-requires : tie.Need-rest-requires Inv-loop μ-loop
-rest-requires c κs = some-left (c .before .before .before .before .is-zero .ensures) (c .before .before .before .if1 .taken)
-
-loop-less : tie.Need-loop-less Inv-loop μ-loop
-loop-less c =
-    let v = value (c .before .before .before .before .before .before .loop .left) in
-    let z = some-left {v = v} (c .before .before .before .before .before .is-zero .ensures) (c .before .before .before .before .if1 .taken) in
-    omega (arith, c .rest .ensures, and-le-r v (v - 1), z)
-
-loop-again : tie.Need-loop-again Inv-loop μ-loop
-loop-again c =
-    let l = c .before .before .before .before .before .before .loop in
-    let v = value (l .left) in
-    let a = c .before .before .before .before .before .before .before .before .before .before .args in
-    let z = some-left {v = v} (c .before .before .before .before .before .is-zero .ensures) (c .before .before .before .before .if1 .taken) in
-    let k = c .before .before .before .lowest .ensures in
-    let m = c .before .before .message-at .ensures in (
-      mask-next (l .count) _ (k .2) z (k .0) (k .1) (c .rest .ensures) (m .0) (l .inv .0),
-      λ ys rs f B.
-          walk-turn (a .d) ys rs f (B .incoming) (B .channel) z (k .2) (k .1) (c .rest .ensures) (l .inv .1 ys rs f B) (λ hk. m .1 ys rs f hk B) (λ cs w. c .before .put .ensures (size (a .d)) cs w),
-    )
-
-returns : tie.Need-returns Inv-loop μ-loop
+returns : tie.Need-returns
 returns c =
-    let b = c .before .before .before .before .before in
-    let a = b .before .args in
-    let l = c .before .before .loop in
-    let z = none-left (c .before .is-zero .ensures) (c .if1 .left) in (
-      omega (arith, l .inv .0),
+    let s = c .before .before .before .before .before .before in
+    let a = s .args in
+    let t = c .before .before .before .before .both-tried .result in
+    let erased = c .before .before .before .before .before .count-erasures .result in
+    let o = and-true _ (oneCodeword (t .one) (t .two)) (sym (c .before .before .before .is-quiet .ensures) ∙ c .before .before .if1 .taken) in
+    let u = and-true (ltb erased (designedDistance - 1)) _ (o .0) in
+    let near = and-true (ltb (t .one .changed) radius) (ltb (t .two .changed) radius) (u .1) in
+    let less = ltb-true erased (designedDistance - 1) (u .0) in (
+      omega (arith, c .before .before .before .before .both-tried .ensures .0),
       λ ys rs p q.
           let f = value (a .filling) in
-          walk-end (a .d) ys rs f p q (subst (Walk (a .d) ys rs f (l .line) (l .count)) z (l .inv .1 ys rs f (b .base-of .ensures .1 ys rs p q))),
+          let e = c .before .before .before .before .before .count-erasures .ensures .1 (size (a .d)) ys p in
+          let T = c .before .before .before .before .both-tried .ensures .1 ys p e in
+          let few = is-few ys erased e (omega (arith, less)) in
+          walk-end (a .d) ys rs f p q
+          (walk-start (a .d) ys rs f p q
+          (quiet-start (a .d) ys rs f p q (T .one few) (T .two few) few (o .1) (c .full .ensures))
+          (T .count)
+          (quiet-mask (a .d) ys rs f p q (T .one few) (T .two few) few (o .1) (omega (arith, less, e)) (near .0) (near .1))),
+    )
+
+returns-2 : tie.Need-returns-2
+returns-2 c =
+    let a = c .before .before .before .before .before .before .args in (
+      c .settle-left .ensures .0,
+      λ ys rs p q.
+          let e = c .before .before .before .before .before .count-erasures .ensures .1 (size (a .d)) ys p in
+          c .settle-left .ensures .1 ys rs (value (a .filling)) (c .before .base-of .ensures .1 ys rs p q e (c .before .before .before .before .both-tried .ensures .1 ys p e)),
     )
 
 pub messages-of-spec : {M : Type 1} → statement M
-messages-of-spec = tie.close (tie.spec Inv-loop μ-loop base-of-requires left-of-requires loop-holds is-zero-requires lowest-requires message-at-requires put-requires rest-requires loop-less loop-again returns)
+messages-of-spec =
+    tie.close
+    (tie.spec
+    count-erasures-requires
+    both-tried-requires
+    is-quiet-requires
+    full-requires
+    base-of-requires
+    settle-left-requires
+    returns
+    returns-2)

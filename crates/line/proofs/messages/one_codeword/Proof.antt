@@ -10,9 +10,7 @@ same-word-requires : tie.Need-same-word-requires
 same-word-requires c κs = search needs
 
 returns : tie.Need-returns
-returns c =
-    let b = c .before .before .before .before .before .args .b in
-    ap (λ (x : Bool). (b .one .tried .found && b .two .tried .found) && x) (c .same-word .ensures)
+returns c = let a = c .before .before .before .args in ap (λ (x : Bool). (a .one .found && a .two .found) && x) (c .same-word .ensures)
 
 pub one-codeword-spec : {M : Type 1} → statement M
 one-codeword-spec = tie.close (tie.spec same-word-requires returns)

@@ -7,7 +7,7 @@ use Rattle.line.specs.Cells.{filled}
 use Rattle.line.specs.Decoding.{replaced}
 use Rattle.line.specs.working.Settled.{settled}
 use Rattle.line.specs.working.Packed.{PacksWord}
-use Rattle.line.specs.working.Word.{value}
+use Rattle.words.specs.working.Word.{value}
 use Rattle.line.proofs.messages.open_cell.Statement.{statement}
 use Rattle.line.proofs.messages.open_cell.Tie as tie
 

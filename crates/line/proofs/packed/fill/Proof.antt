@@ -5,7 +5,7 @@ use Prim.Native.Nat.{ℕ}
 use lib.Bits.{bitOr, bitXor}
 use borrow.Author.Needs.{needs}
 use Rattle.line.specs.declared.side.Side.the-variants.{One, Two}
-use Rattle.line.specs.working.Word.{value}
+use Rattle.words.specs.working.Word.{value}
 use Rattle.line.proofs.Packing.{packed-as, filled-one, filled-two}
 use Rattle.line.proofs.packed.fill.Statement.{statement}
 use Rattle.line.proofs.packed.fill.Tie as tie

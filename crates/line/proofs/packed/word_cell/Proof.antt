@@ -3,7 +3,7 @@
 use mathlib.Core.Path.{_∙_}
 use borrow.Author.Needs.{needs}
 use Rattle.laws.proofs.Bits.{bit-at-lt}
-use Rattle.line.specs.working.Word.{value}
+use Rattle.words.specs.working.Word.{value}
 use Rattle.line.proofs.Packing.{bit-of-word}
 use Rattle.line.proofs.packed.word_cell.Statement.{statement}
 use Rattle.line.proofs.packed.word_cell.Tie as tie

@@ -1,6 +1,7 @@
 -- `lines::pugdrel_decode_line` meets its contract: that of the entry below, for the part that is handed on.
 -- Assumes nothing.
 use Rattle.line.specs.Bounded.{bounded}
+use Rattle.line.specs.Cells.{fillingWord}
 use Rattle.line.specs.Decoding.{decode}
 use Rattle.pugdrel.specs.working.Numbers.{fits}
 use Rattle.pugdrel.proofs.Handing.{lent-le, lent-length}
@@ -42,7 +43,7 @@ returns c =
     let s = h .before .before .before .args in
     record {
       answer = q .decode-line .result;
-      done = line-handed 2 (s .degree) (s .cells .now) (λ p d. decode (bounded d) p (s .filling)) (fits 1 (s .report .now)) (h .lent .result) (h .lent .ensures) (q .decode-line .ensures);
+      done = line-handed 2 (s .degree) (s .cells .now) (λ p d. decode (bounded d) p (fillingWord (s .filling-low) (s .filling-high))) (fits 1 (s .report .now)) (h .lent .result) (h .lent .ensures) (q .decode-line .ensures);
       refusal = t .tell-found .ensures .0;
       report = t .tell-found .ensures .1;
     }

@@ -3,6 +3,7 @@
 use mathlib.Core.Path.{ap, _∙_}
 use mathlib.Core.List.{[], _∷_}
 use Prim.Native.Nat.{ℕ}
+use Rattle.line.specs.Cells.{fillingWord}
 use Rattle.pugdrel.specs.Reports.{told}
 use Rattle.pugdrel.specs.working.Numbers.{fits}
 use Rattle.pugdrel.proofs.Handing.{lent-length, lent-part}
@@ -47,7 +48,7 @@ returns c =
     let q = n .before .before .before in
     let h = q .before .before .before in
     let s = h .before .before .before .before .before .args in
-    messages-told (s .degree) (s .incoming .now) (s .channel .now) (s .filling) (s .messages .now)
+    messages-told (s .degree) (s .incoming .now) (s .channel .now) (fillingWord (s .filling-low) (s .filling-high)) (s .messages .now)
     (lent-part (fits 1 (s .report .now)) (s .incoming .now) (h .lent .ensures)) (q .line-messages .ensures) (c .messages-refusal .ensures)
     (t .tell .ensures ∙ ap (λ (x : ℕ). told (x ∷ []) (s .report .now)) (n .messages-count .ensures))
 

@@ -1,4 +1,4 @@
--- `arrays::decode` meets its contract: a line counts 130 at most. Assumes nothing.
+-- `arrays::decode` meets its contract: a line counts 258 at most. Assumes nothing.
 use Prim.Native.Nat.{_≤_, _-_, _*_}
 use borrow.Author.Needs.{needs}
 use native.Mathlib.Nat.{mod-lt}
@@ -7,7 +7,7 @@ use Rattle.second.proofs.arrays.decode.Statement.{statement}
 use Rattle.second.proofs.arrays.decode.Tie as tie
 
 abbrev Inv-loop : tie.InvT-loop
-Inv-loop n weights received filling many cells₀ tally₀ lines sum₀ w₀ cells tally sum w = (w ≤ many) × (sum ≤ 130 * w) × (Below 3 received → Below 3 cells₀ → Below 3 cells)
+Inv-loop n weights received filling many cells₀ tally₀ lines sum₀ w₀ cells tally sum w = (w ≤ many) × (sum ≤ 258 * w) × (Below 3 received → Below 3 cells₀ → Below 3 cells)
 
 abbrev μ-loop : tie.MeasureT-loop
 μ-loop n weights received filling many cells₀ tally₀ lines sum₀ w₀ cells tally sum w = many - w
@@ -25,8 +25,7 @@ decode-spec =
     μ-loop
     (λ c. search needs)
     (λ c. (search needs, search needs, λ h g. g))
-    (λ c. search needs)
-    (λ c. search needs)
+    (λ c κs. search needs)
     (λ c. search needs)
     (λ c κs. (search needs, mod-lt _ (search needs)))
     (λ c. search needs)

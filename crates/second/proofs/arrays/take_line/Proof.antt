@@ -11,7 +11,7 @@ use Rattle.second.proofs.arrays.take_line.Statement.{statement}
 use Rattle.second.proofs.arrays.take_line.Tie as tie
 
 abbrev Inv-loop : tie.InvT-loop
-Inv-loop n i cells line₀ j₀ line j = (j ≤ n) × (line ≡ written (λ k. k) (λ k. getD cells (placeOf n i k) 0) j (replicate 64 0))
+Inv-loop n i cells line₀ j₀ line j = (j ≤ n) × (line ≡ written (λ k. k) (λ k. getD cells (placeOf n i k) 0) j (replicate 128 0))
 
 abbrev μ-loop : tie.MeasureT-loop
 μ-loop n i cells line₀ j₀ line j = n - j
@@ -24,7 +24,7 @@ loop-again : tie.Need-loop-again Inv-loop μ-loop
 loop-again c =
     let turn = c .before .before .before .loop in
     let s = c .before .before .before .before .args in
-    (search needs, cc (written-next (λ k. k) (λ k. getD (s .cells .now) (placeOf (s .n) (s .i) k) 0) (turn .j) (replicate 64 0) (turn .inv .1)))
+    (search needs, cc (written-next (λ k. k) (λ k. getD (s .cells .now) (placeOf (s .n) (s .i) k) 0) (turn .j) (replicate 128 0) (turn .inv .1)))
 
 returns : tie.Need-returns Inv-loop μ-loop
 unfolding takenLine

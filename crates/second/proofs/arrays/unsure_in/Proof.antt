@@ -10,7 +10,7 @@ use Rattle.second.proofs.arrays.unsure_in.Statement.{statement}
 use Rattle.second.proofs.arrays.unsure_in.Tie as tie
 
 abbrev Inv-loop : tie.InvT-loop
-Inv-loop n cells many₀ i₀ many i = (i ≤ n) × (many ≡ sumTo (unsureOf n cells) i) × (many ≤ 64 * i)
+Inv-loop n cells many₀ i₀ many i = (i ≤ n) × (many ≡ sumTo (unsureOf n cells) i) × (many ≤ 128 * i)
 
 abbrev μ-loop : tie.MeasureT-loop
 μ-loop n cells many₀ i₀ many i = n - i

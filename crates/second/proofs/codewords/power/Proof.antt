@@ -10,7 +10,7 @@ use Rattle.second.proofs.codewords.power.Statement.{statement}
 use Rattle.second.proofs.codewords.power.Tie as tie
 
 abbrev Inv-loop : tie.InvT-loop
-Inv-loop n exponent x₀ counter₀ x counter = (counter ≤ exponent) × (x ≡ powerOf n counter) × (x < 64)
+Inv-loop n exponent x₀ counter₀ x counter = (counter ≤ exponent) × (x ≡ powerOf n counter) × (x < 128)
 
 abbrev μ-loop : tie.MeasureT-loop
 μ-loop n exponent x₀ counter₀ x counter = exponent - counter

@@ -11,7 +11,7 @@ use Rattle.second.proofs.codewords.weights_of.Statement.{statement}
 use Rattle.second.proofs.codewords.weights_of.Tie as tie
 
 abbrev Inv-loop : tie.InvT-loop
-Inv-loop n last weights₀ i₀ weights i = (i ≤ last) × (weights ≡ written (λ k. k) (weightOf n) i (replicate 64 0))
+Inv-loop n last weights₀ i₀ weights i = (i ≤ last) × (weights ≡ written (λ k. k) (weightOf n) i (replicate 128 0))
 
 abbrev μ-loop : tie.MeasureT-loop
 μ-loop n last weights₀ i₀ weights i = last - i
@@ -23,7 +23,7 @@ loop-holds c = (search needs, refl)
 loop-again : tie.Need-loop-again Inv-loop μ-loop
 loop-again c =
     let turn = c .before .before .before .loop in
-    (search needs, cc (written-next (λ k. k) (weightOf (c .before .before .before .before .args .n)) (turn .i) (replicate 64 0) (turn .inv .1)))
+    (search needs, cc (written-next (λ k. k) (weightOf (c .before .before .before .before .args .n)) (turn .i) (replicate 128 0) (turn .inv .1)))
 
 returns : tie.Need-returns Inv-loop μ-loop
 returns c = let all : c .before .loop .i ≡ c .before .before .args .n - 1 = omega arith in cc

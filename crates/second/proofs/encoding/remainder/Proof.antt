@@ -10,7 +10,7 @@ use Rattle.second.proofs.encoding.remainder.Statement.{statement}
 use Rattle.second.proofs.encoding.remainder.Tie as tie
 
 abbrev Inv-loop : tie.InvT-loop
-Inv-loop n line last rest₀ j₀ rest j = (j ≤ last) × (rest ≡ remainderOf n line j) × (rest < 4096)
+Inv-loop n line last rest₀ j₀ rest j = (j ≤ last) × (rest ≡ remainderOf n line j) × (rest < 16384)
 
 abbrev μ-loop : tie.MeasureT-loop
 μ-loop n line last rest₀ j₀ rest j = last - j

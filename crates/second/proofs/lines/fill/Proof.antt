@@ -15,12 +15,13 @@ abbrev μ-loop : tie.MeasureT-loop
 μ-loop n filling line word₀ i₀ word i = n - i
 
 loop-holds : tie.Need-loop-holds Inv-loop μ-loop
-loop-holds c = (search needs, λ h. below-zeros 64 2 (omega arith))
+loop-holds c = (search needs, λ h. below-zeros 128 2 (omega arith))
 
 loop-again : tie.Need-loop-again Inv-loop μ-loop
 loop-again c =
-    let turn = c .before .before .loop in
-    (search needs, λ h. below-set (turn .word) (turn .i) (c .filled .result) 2 (turn .inv .1 h) (c .filled .ensures (h (turn .i))))
+    let bit = c .before in
+    let turn = bit .before .before .loop in
+    (search needs, λ h. below-set (turn .word) (turn .i) (c .filled .result) 2 (turn .inv .1 h) (c .filled .ensures (h (turn .i)) (bit .filling-bit .ensures)))
 
 pub fill-spec : {M : Type 1} → statement M
 fill-spec =
@@ -30,7 +31,7 @@ fill-spec =
     μ-loop
     loop-holds
     (λ c. search needs)
-    (λ c. search needs)
+    (λ c κs. search needs)
     (λ c κs. search needs)
     (λ c. search needs)
     (λ c. search needs)

@@ -15,7 +15,7 @@ abbrev μ-loop : tie.MeasureT-loop
 μ-loop n weights incoming filling tally₀ channel sent₀ count₀ k₀ tally sent count k = n - k
 
 loop-holds : tie.Need-loop-holds Inv-loop μ-loop
-loop-holds c = (search needs, search needs, λ h g. below-zeros 64 3 (omega arith))
+loop-holds c = (search needs, search needs, λ h g. below-zeros 128 3 (omega arith))
 
 loop-again : tie.Need-loop-again Inv-loop μ-loop
 loop-again c =

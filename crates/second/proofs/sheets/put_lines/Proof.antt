@@ -5,7 +5,7 @@ use Rattle.second.proofs.sheets.put_lines.Statement.{statement}
 use Rattle.second.proofs.sheets.put_lines.Tie as tie
 
 abbrev Inv-loop : tie.InvT-loop
-Inv-loop n cells at output₀ area next₀ i₀ output next i = (i ≤ area) × (next ≤ 4300)
+Inv-loop n cells at output₀ area next₀ i₀ output next i = (i ≤ area) × (next ≤ 16700)
 
 abbrev μ-loop : tie.MeasureT-loop
 μ-loop n cells at output₀ area next₀ i₀ output next i = area - i

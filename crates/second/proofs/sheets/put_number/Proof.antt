@@ -5,7 +5,7 @@ use Rattle.second.proofs.sheets.put_number.Statement.{statement}
 use Rattle.second.proofs.sheets.put_number.Tie as tie
 
 abbrev Inv-loop : tie.InvT-loop
-Inv-loop number end at output₀ digits many next₀ d₀ output next d = (d ≤ many) × (next ≤ 4300)
+Inv-loop number end at output₀ digits many next₀ d₀ output next d = (d ≤ many) × (next ≤ 16700)
 
 abbrev μ-loop : tie.MeasureT-loop
 μ-loop number end at output₀ digits many next₀ d₀ output next d = many - d

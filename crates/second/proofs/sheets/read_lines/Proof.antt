@@ -5,7 +5,7 @@ use Rattle.second.proofs.sheets.read_lines.Statement.{statement}
 use Rattle.second.proofs.sheets.read_lines.Tie as tie
 
 abbrev Inv-loop : tie.InvT-loop
-Inv-loop n input cells₀ long newlines₀ characters₀ next₀ p₀ cells newlines characters next p = (2 ≤ p) × (next < 4096)
+Inv-loop n input cells₀ long newlines₀ characters₀ next₀ p₀ cells newlines characters next p = (2 ≤ p) × (next < 16384)
 
 abbrev μ-loop : tie.MeasureT-loop
 μ-loop n input cells₀ long newlines₀ characters₀ next₀ p₀ cells newlines characters next p = long - p

@@ -4,7 +4,7 @@ use mathlib.Core.Path.{sym}
 use native.Mathlib.Omega.{arith}
 use lib.Seq.{length-take-le}
 use Rattle.line.proofs.Bounds.{size-le}
-use Rattle.text.proofs.SheetLaws.{words-are, decoded-answer, never-refused}
+use Rattle.text.proofs.SheetLaws.{numbers-are, decoded-answer, never-refused}
 use borrow.Author.Needs.{needs}
 use Rattle.text.proofs.step.decoded.Statement.{statement}
 use Rattle.text.proofs.step.decoded.Tie as tie
@@ -12,8 +12,8 @@ use Rattle.text.proofs.step.decoded.Tie as tie
 size-of-requires : tie.Need-size-of-requires
 size-of-requires c κs = search needs
 
-mul-words : tie.Need-mul-words
-mul-words c = omega (arith, size-le (c .before .before .before .args .d) (c .size-of .ensures))
+mul-numbers : tie.Need-mul-numbers
+mul-numbers c = omega (arith, size-le (c .before .before .before .args .d) (c .size-of .ensures))
 
 degree-number-requires : tie.Need-degree-number-requires
 degree-number-requires c κs = search needs
@@ -43,7 +43,7 @@ returns c =
     let q = c .before .before .before .before .before in
     let s = q .before .before .before .before .before .before .before in
     let n = q .before .before .before .before .size-of .ensures in
-    decoded-answer (s .args .d) _ _ _ _ (q .before .before .before .degree-number .ensures) (s .pre .0) (s .pre .1) (words-are (s .args .d) n) _ _ (q .decode .ensures) _ (c .before .answer .given .1)
+    decoded-answer (s .args .d) _ _ _ _ (q .before .before .before .degree-number .ensures) (s .pre .0) (s .pre .1) (numbers-are (s .args .d) n) _ _ (q .decode .ensures) _ (c .before .answer .given .1)
 
 same-length-2 : tie.Need-same-length-2
 same-length-2 c = search needs
@@ -53,14 +53,14 @@ returns-2 c =
     let q = c .before .before .before .before in
     let s = q .before .before .before .before .before .before .before in
     let n = q .before .before .before .before .size-of .ensures in
-    absurd (never-refused (s .args .d) _ _ _ _ (q .before .before .before .degree-number .ensures) (s .pre .0) (s .pre .1) (words-are (s .args .d) n) _ _ (q .decode .ensures) _ (c .enum-told .given .1))
+    absurd (never-refused (s .args .d) _ _ _ _ (q .before .before .before .degree-number .ensures) (s .pre .0) (s .pre .1) (numbers-are (s .args .d) n) _ _ (q .decode .ensures) _ (c .enum-told .given .1))
 
 pub decoded-spec : {M : Type 1} → statement M
 decoded-spec =
     tie.close
     (tie.spec
     size-of-requires
-    mul-words
+    mul-numbers
     degree-number-requires
     array-share-prefix-filling
     slice-aggregate-decode

@@ -1,92 +1,64 @@
--- `words::pairs::gather_pair` meets its contract: the bits of the bytes passed are gathered, eight more a turn.
+-- `words::pairs::gather_pair` meets its contract: the low numbers have the bits of the first 64 bytes, the high ones those behind them.
 -- Assumes nothing.
-use mathlib.Core.Path.{_≡_, refl, ap, _∙_}
-use Prim.Native.Nat.{ℕ, _≤_, _<_, _+_, _-_, _*_, _%_, _^_}
-use native.Mathlib.Omega.{arith}
-use lib.Bits.{bitOr}
-use lib.ListN.{length, take}
-use lib.Pow.{shl-exact}
-use lib.Seq.{take-all}
-use Rattle.words.specs.working.Bytes.{gathered}
-use Rattle.words.specs.working.Pairs.{bitsOf}
-use Rattle.words.proofs.ByteLaws.{gathered-lt}
-use Rattle.words.proofs.PairLaws.{low-more, high-more}
+use Rattle.words.proofs.PairLaws.{part-long, front-asked, back-asked, gathered-both}
+use borrow.Author.Needs.{needs}
 use Rattle.words.proofs.pairs.gather_pair.Statement.{statement}
 use Rattle.words.proofs.pairs.gather_pair.Tie as tie
 
-abbrev Inv-loop : tie.InvT-loop
-Inv-loop bytes low₀ high₀ at₀ low high at = (at ≤ length bytes) × (at % 8 ≡ 0) × (low ≡ bitsOf 0 (take at bytes)) × (high ≡ bitsOf 1 (take at bytes))
+cut-of-requires : tie.Need-cut-of-requires
+cut-of-requires c κs = search needs
 
-abbrev μ-loop : tie.MeasureT-loop
-μ-loop bytes low₀ high₀ at₀ low high at = length bytes - at
+slice-aggregate-gather-part : tie.Need-slice-aggregate-gather-part
+slice-aggregate-gather-part c = part-long _ _ (c .before .cut-of .ensures .0)
 
--- a gathered byte is shifted to its place, and nothing of it is lost
-shifted : (w at x : ℕ) {g : ℕ} → g ≡ gathered 8 x → at + 8 ≤ 64 → bitOr w (g * 2 ^ at % 2 ^ 64) ≡ bitOr w (g * 2 ^ at)
-shifted w at x {g} e h =
-    let small : g < 256 = rw e (gathered-lt 8 x) in
-    ap (bitOr w) (shl-exact {a = g} 8 at 64 small (omega arith))
-
-loop-holds : tie.Need-loop-holds Inv-loop μ-loop
-unfolding bitsOf
-loop-holds c = (omega arith, refl, refl, refl)
-
-eight-requires : tie.Need-eight-requires Inv-loop μ-loop
-eight-requires c κs = omega arith
-
-gather-requires : tie.Need-gather-requires Inv-loop μ-loop
-gather-requires c κs = tt
-
-shl-low : tie.Need-shl-low Inv-loop μ-loop
-shl-low c = omega arith
-
-gather-requires-2 : tie.Need-gather-requires-2 Inv-loop μ-loop
-gather-requires-2 c κs = tt
-
-shl-high : tie.Need-shl-high Inv-loop μ-loop
-shl-high c = omega arith
-
-add-at : tie.Need-add-at Inv-loop μ-loop
-add-at c = omega arith
-
-loop-less : tie.Need-loop-less Inv-loop μ-loop
-loop-less c = omega arith
-
-loop-again : tie.Need-loop-again Inv-loop μ-loop
-loop-again c =
-    let x = c .before .before .eight in
-    let l = c .before .before .before .before .loop in
-    let s = c .before .before .before .before .before .before in
-    let bytes = s .args .bytes .now in
-    let room : l .at + 8 ≤ length bytes = omega arith in
-    let fits : l .at + 8 ≤ 64 = omega (arith, s .pre .0) in
-    let g = c .before .gather in
-    let h = c .gather2 in (
-      room,
-      omega arith,
-      shifted (l .low) (l .at) _ (g .ensures) fits ∙ low-more bytes (l .at) room (s .pre .2) (l .low) (x .result) (g .result) (x .ensures) (l .inv .2) (g .ensures),
-      shifted (l .high) (l .at) _ (h .ensures) fits ∙ high-more bytes (l .at) room (s .pre .2) (l .high) (x .result) (h .result) (x .ensures) (l .inv .3) (h .ensures),
-    )
-
-returns : tie.Need-returns Inv-loop μ-loop
-returns c =
-    let l = c .before .loop in
+gather-part-requires : tie.Need-gather-part-requires
+gather-part-requires c κs =
+    let cut = c .before .cut-of .ensures in
     let s = c .before .before .before in
-    let all = take-all (l .at) (s .args .bytes .now) (c .loop-test .left) in
-    (rw all at (l .inv .2), rw all at (l .inv .3))
+    front-asked _ _ (cut .0) (s .pre .1) (cut .2) (cut .1) (s .pre .2)
+
+sub-gather-part : tie.Need-sub-gather-part
+sub-gather-part c = search needs
+
+part-gather-part-start : tie.Need-part-gather-part-start
+part-gather-part-start c = search needs
+
+part-gather-part-end : tie.Need-part-gather-part-end
+part-gather-part-end c = search needs
+
+gather-part-requires-2 : tie.Need-gather-part-requires-2
+gather-part-requires-2 c κs =
+    let cut = c .before .before .before .cut-of .ensures in
+    let s = c .before .before .before .before .before in
+    back-asked _ (s .args .bytes .now) (cut .0) (s .pre .1) (cut .2) (s .pre .0) (s .pre .2)
+
+of-numbers-requires : tie.Need-of-numbers-requires
+of-numbers-requires c κs = search needs
+
+of-numbers-requires-2 : tie.Need-of-numbers-requires-2
+of-numbers-requires-2 c κs = search needs
+
+returns : tie.Need-returns
+returns c =
+    let cut = c .before .before .before .before .before .before .cut-of .ensures in
+    let s = c .before .before .before .before .before .before .before .before in
+    let low = c .before .before .before .before .gather-part .ensures in
+    let high = c .before .before .gather-part2 .ensures in (
+      gathered-both _ _ (cut .0) (s .pre .1) (cut .2) 0 _ (low .0) (high .0) (c .before .of-numbers .ensures),
+      gathered-both _ _ (cut .0) (s .pre .1) (cut .2) 1 _ (low .1) (high .1) (c .of-numbers2 .ensures),
+    )
 
 pub gather-pair-spec : {M : Type 1} → statement M
 gather-pair-spec =
     tie.close
     (tie.spec
-    Inv-loop
-    μ-loop
-    loop-holds
-    eight-requires
-    gather-requires
-    shl-low
-    gather-requires-2
-    shl-high
-    add-at
-    loop-less
-    loop-again
+    cut-of-requires
+    slice-aggregate-gather-part
+    gather-part-requires
+    sub-gather-part
+    part-gather-part-start
+    part-gather-part-end
+    gather-part-requires-2
+    of-numbers-requires
+    of-numbers-requires-2
     returns)

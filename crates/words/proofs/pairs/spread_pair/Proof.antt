@@ -1,91 +1,78 @@
--- `words::pairs::spread_pair` meets its contract: the bytes passed are those that the words say, eight more a turn.
+-- `words::pairs::spread_pair` meets its contract: the low numbers say the first 64 bytes, the high ones those behind them.
 -- Assumes nothing.
-use mathlib.Core.Path.{_≡_, refl, ap, sym, _∙_}
-use mathlib.Core.List.{_++_, append-nil}
-use Prim.Native.Nat.{ℕ, _≤_, _+_, _-_, _%_}
-use native.Mathlib.Omega.{arith}
-use native.Mathlib.Nat.{sub-zero}
-use lib.ListN.{length, take}
-use lib.Seq.{take-all}
-use Rattle.words.specs.working.Pairs.{pairsOf}
-use Rattle.words.proofs.PairLaws.{spread-turn, put-pairs}
+use Rattle.words.proofs.PairLaws.{part-long, front-eights, half-eights, spread-both}
+use borrow.Author.Needs.{needs}
 use Rattle.words.proofs.pairs.spread_pair.Statement.{statement}
 use Rattle.words.proofs.pairs.spread_pair.Tie as tie
 
-abbrev Inv-loop : tie.InvT-loop
-Inv-loop low high bytes₀ a₀ b₀ at₀ bytes a b at =
-    (at ≤ length bytes) × (at % 8 ≡ 0) × (length bytes ≡ length bytes₀) × (take at bytes ++ pairsOf (length bytes₀ - at) a b ≡ pairsOf (length bytes₀) low high)
+cut-of-requires : tie.Need-cut-of-requires
+cut-of-requires c κs = search needs
 
-abbrev μ-loop : tie.MeasureT-loop
-μ-loop low high bytes₀ a₀ b₀ at₀ bytes a b at = length bytes - at
+low-of-requires : tie.Need-low-of-requires
+low-of-requires c κs = search needs
 
-loop-holds : tie.Need-loop-holds Inv-loop μ-loop
-loop-holds c =
-    let s = c .before .args in
-    (omega arith, refl, refl, ap (λ (k : ℕ). pairsOf k (s .low) (s .high)) (sub-zero _))
+low-of-requires-2 : tie.Need-low-of-requires-2
+low-of-requires-2 c κs = search needs
 
-spread-requires : tie.Need-spread-requires Inv-loop μ-loop
-spread-requires c κs = omega arith
+slice-relend-prefix-spread-part : tie.Need-slice-relend-prefix-spread-part
+slice-relend-prefix-spread-part c = search needs
 
-spread-requires-2 : tie.Need-spread-requires-2 Inv-loop μ-loop
-spread-requires-2 c κs = omega arith
+slice-aggregate-spread-part : tie.Need-slice-aggregate-spread-part
+slice-aggregate-spread-part c = part-long _ _ (c .before .before .before .cut-of .ensures .0)
 
-mul-put-eight : tie.Need-mul-put-eight Inv-loop μ-loop
-mul-put-eight c = omega arith
+spread-part-requires : tie.Need-spread-part-requires
+spread-part-requires c κs =
+    let cut = c .before .before .before .cut-of .ensures in
+    front-eights _ _ (cut .0) (c .before .before .before .before .before .pre) (cut .2)
 
-add-put-eight : tie.Need-add-put-eight Inv-loop μ-loop
-add-put-eight c = omega arith
+high-of-requires : tie.Need-high-of-requires
+high-of-requires c κs = search needs
 
-put-eight-requires : tie.Need-put-eight-requires Inv-loop μ-loop
-put-eight-requires c κs = omega arith
+high-of-requires-2 : tie.Need-high-of-requires-2
+high-of-requires-2 c κs = search needs
 
-add-at : tie.Need-add-at Inv-loop μ-loop
-add-at c = omega arith
+sub-spread-part : tie.Need-sub-spread-part
+sub-spread-part c = search needs
 
-loop-less : tie.Need-loop-less Inv-loop μ-loop
-loop-less c = omega (arith, c .before .before .put-eight .kept .0)
+part-spread-part-start : tie.Need-part-spread-part-start
+part-spread-part-start c = search needs
 
-loop-again : tie.Need-loop-again Inv-loop μ-loop
-loop-again c =
-    let p = c .before .before .put-eight in
-    let y = c .before .before .before .spread2 .ensures .0 in
-    let x = c .before .before .before .before .spread .ensures .0 in
-    let l = c .before .before .before .before .before .before .before .loop in
-    let n = length (c .before .before .before .before .before .before .before .before .before .args .bytes .now) in
-    let room : l .at + 8 ≤ length (l .bytes) = omega arith in
-    let e = put-pairs (l .bytes) (p .last .0) (l .at) (l .a) (l .b) x y (p .ensures) in (
-      omega (arith, p .kept .0),
-      omega arith,
-      p .kept .0 ∙ l .inv .2,
-      rw e (spread-turn (l .bytes) n (l .at) (l .a) (l .b) room (l .inv .2) ∙ l .inv .3),
-    )
+part-spread-part-end : tie.Need-part-spread-part-end
+part-spread-part-end c = search needs
 
-same-length : tie.Need-same-length Inv-loop μ-loop
-same-length c = c .before .loop .inv .2
+spread-part-requires-2 : tie.Need-spread-part-requires-2
+spread-part-requires-2 c κs =
+    let cut = c .before .before .before .before .before .before .before .before .before .cut-of .ensures in
+    let s = c .before .before .before .before .before .before .before .before .before .before .before in
+    let one = c .before .before .before .before .before .spread-part in
+    half-eights _ _ (one .last .1 .1 .0) (one .last .1 .1 .0) (cut .0) (s .pre) (cut .2) (one .kept .1 .1 .0)
 
-returns : tie.Need-returns Inv-loop μ-loop
-unfolding pairsOf
+same-length : tie.Need-same-length
+same-length c = search needs
+
+returns : tie.Need-returns
 returns c =
-    let l = c .before .loop in
-    let n = length (c .before .before .before .args .bytes .now) in
-    let all : length (l .bytes) ≤ l .at = omega arith in
-    let none : n - l .at ≡ 0 = omega arith in
-    sym (take-all (l .at) (l .bytes) all) ∙ sym (append-nil (take (l .at) (l .bytes))) ∙ rw none at (l .inv .3)
+    let cut = c .before .before .before .before .before .before .before .before .before .before .before .before .cut-of .ensures in
+    let s = c .before .before .before .before .before .before .before .before .before .before .before .before .before .before in
+    let one = c .before .before .before .before .before .before .before .before .spread-part in
+    let two = c .before .before .spread-part2 in
+    spread-both _ _ (one .last .1 .1 .0) (two .last .1 .1 .0) (cut .0) (s .pre) (cut .2) (one .kept .1 .1 .0) _ _ (cut .1) (c .before .before .before .before .before .before .before .before .before .before .before .low-of .ensures) (c .before .before .before .before .before .before .before .before .before .before .low-of2 .ensures) (c .before .before .before .before .before .high-of .ensures) (c .before .before .before .before .high-of2 .ensures) (one .ensures) (two .ensures)
 
 pub spread-pair-spec : {M : Type 1} → statement M
 spread-pair-spec =
     tie.close
     (tie.spec
-    Inv-loop
-    μ-loop
-    loop-holds
-    spread-requires
-    spread-requires-2
-    mul-put-eight
-    add-put-eight
-    put-eight-requires
-    add-at
-    loop-less
-    loop-again
+    cut-of-requires
+    low-of-requires
+    low-of-requires-2
+    slice-relend-prefix-spread-part
+    slice-aggregate-spread-part
+    spread-part-requires
+    high-of-requires
+    high-of-requires-2
+    sub-spread-part
+    part-spread-part-start
+    part-spread-part-end
+    spread-part-requires-2
     same-length
     returns)

@@ -1,41 +1,40 @@
 -- `words::sums::chosen_sum` meets its contract. The loop's invariant: the sum is that of the first a words.
 -- Assumes nothing.
-use mathlib.Core.Path.{_≡_, refl}
-use Prim.Native.Nat.{_-_, _≤_}
+use mathlib.Core.Path.{_≡_, refl, ap, _∙_}
+use Prim.Native.Nat.{ℕ, _-_, _≤_}
 use native.Mathlib.Omega.{arith}
+use Rattle.laws.specs.working.Bits.{bitAt}
 use Rattle.laws.specs.working.Sums.{xorTo}
 use Rattle.words.specs.working.Sums.{chosenSum}
+use Rattle.words.specs.working.Word.{value}
 use Rattle.words.proofs.SumLaws.{chosen-next, chosen-all}
 use Rattle.words.proofs.sums.chosen_sum.Statement.{statement}
 use Rattle.words.proofs.sums.chosen_sum.Tie as tie
 
 abbrev Inv-loop : tie.InvT-loop
-Inv-loop k table words i sum₀ a₀ sum a = (a ≤ k) × (sum ≡ chosenSum table words a i)
+Inv-loop k table words i sum₀ a₀ sum a = (a ≤ k) × (value sum ≡ chosenSum table words a i)
 
 abbrev μ-loop : tie.MeasureT-loop
 μ-loop k table words i sum₀ a₀ sum a = k - a
 
+zero-word-requires : tie.Need-zero-word-requires Inv-loop μ-loop
+zero-word-requires c κs = tt
+
 loop-holds : tie.Need-loop-holds Inv-loop μ-loop
 unfolding chosenSum xorTo
-loop-holds c = (omega arith, refl)
+loop-holds c = (omega arith, c .zero-word .ensures)
 
-mul-bit : tie.Need-mul-bit Inv-loop μ-loop
-mul-bit c = omega arith
+word-in-requires : tie.Need-word-in-requires Inv-loop μ-loop
+word-in-requires c κs = (omega arith, omega arith)
 
-element-copy-out-bit : tie.Need-element-copy-out-bit Inv-loop μ-loop
-element-copy-out-bit c = omega arith
+bit-at-requires : tie.Need-bit-at-requires Inv-loop μ-loop
+bit-at-requires c κs = omega arith
 
-shr-bit : tie.Need-shr-bit Inv-loop μ-loop
-shr-bit c = omega arith
+word-in-requires-2 : tie.Need-word-in-requires-2 Inv-loop μ-loop
+word-in-requires-2 c κs = (omega arith, omega arith)
 
-mul-sum-where : tie.Need-mul-sum-where Inv-loop μ-loop
-mul-sum-where c = omega arith
-
-shared-slice-read-sum-where : tie.Need-shared-slice-read-sum-where Inv-loop μ-loop
-shared-slice-read-sum-where c = omega arith
-
-sum-where-requires : tie.Need-sum-where-requires Inv-loop μ-loop
-sum-where-requires c κs = tt
+xor-where-requires : tie.Need-xor-where-requires Inv-loop μ-loop
+xor-where-requires c κs = tt
 
 add-a : tie.Need-add-a Inv-loop μ-loop
 add-a c = omega arith
@@ -44,7 +43,13 @@ loop-less : tie.Need-loop-less Inv-loop μ-loop
 loop-less c = omega arith
 
 loop-again : tie.Need-loop-again Inv-loop μ-loop
-loop-again c = let l = c .before .before .before .before .loop in (omega arith, chosen-next _ _ _ _ (l .a) (l .inv .1) refl refl refl (c .sum-where .ensures))
+loop-again c =
+    let l = c .before .before .before .before .before .loop in
+    let i = c .before .before .before .before .before .before .before .before .before .args .i in
+    let unit = c .before .before .before .word-in in
+    let bit = c .before .before .bit-at in
+    let word = c .before .word-in2 in
+    (omega arith, chosen-next _ _ i _ (l .a) (l .inv .1) (unit .ensures) (bit .ensures) (word .ensures) (c .xor-where .ensures))
 
 returns : tie.Need-returns Inv-loop μ-loop
 returns c =
@@ -57,13 +62,12 @@ chosen-sum-spec =
     (tie.spec
     Inv-loop
     μ-loop
+    zero-word-requires
     loop-holds
-    mul-bit
-    element-copy-out-bit
-    shr-bit
-    mul-sum-where
-    shared-slice-read-sum-where
-    sum-where-requires
+    word-in-requires
+    bit-at-requires
+    word-in-requires-2
+    xor-where-requires
     add-a
     loop-less
     loop-again
