@@ -22,9 +22,11 @@ pub mod FillingNumbers
 pub mod LongExamples
 mod Reaching
 mod Settling
+mod KnownCells
 mod Starting
 mod Masking
 pub mod OneCodeword
+mod NoCodeword
 mod Walking
 pub mod LineEncoding
 pub mod UnitLaws

@@ -39,8 +39,8 @@ use Rattle.line.specs.Clauses.{reach, byReach, cost, clause}
 use Rattle.line.specs.working.Settled.{settled}
 use Rattle.line.specs.working.Fillings.{TrialOf, Based, Masks, start, stays, oneCodeword}
 use Rattle.line.proofs.ClauseLaws.{clause-settles}
-use Rattle.line.proofs.Reaching.{channel-bit, reach-at, equal-clause, reach-clause}
-use Rattle.line.proofs.Masking.{outside}
+use Rattle.line.proofs.Reaching.{channel-bit, reach-at, reach-clause}
+use Rattle.line.proofs.Masking.{equal-outside}
 
 -- ---- the masks, bit by bit
 
@@ -119,7 +119,7 @@ module _ (d : Degree) (ys rs : List ℕ) (f : ℕ) {y r : Line} (p : Packs (size
   own-message k hk g h l = go (ℕ-discrete (cell ys k) (cell rs k))
     where
       go : Dec (cell ys k ≡ cell rs k) → (cell (start d ys rs f) k ≡ message (bounded d) ys rs f k) × (cost (clause (bounded d) ys rs f k) ≡ 0)
-      go (yes z) = outside d ys rs f p q refl k hk (rw e (equal-clause d ys rs f k (p .cells) (q .cells) hk e z))
+      go (yes z) = equal-outside d ys rs f p q refl k hk e z
       go (no z) =
           let c : Both ≡ clause (bounded d) ys rs f k = both-clause k g h ∙ reach-clause d ys rs f k (p .cells) (q .cells) hk e z l in
           rw (clause-settles d ys rs f k (p .cells) (q .cells) hk, ← c) (own-cell k agreed, refl)

@@ -22,7 +22,7 @@ use Rattle.words.specs.working.Word.{value, width}
 use Rattle.line.specs.Cells.{cell, isErased, erasures, distance, filled, flip}
 use Rattle.line.specs.working.Packed.{isOne, packBy, Packs, PacksWord}
 use Rattle.line.proofs.CellLaws.{set-cells, filled-word}
-use Rattle.line.proofs.PackBits.{Small, packBy-bit, packBy-set, cell-ind, cell-of, filled-first, filled-second, no-erased, ones-erased, ones-differing}
+use Rattle.line.proofs.PackBits.{Small, packBy-lt, packBy-bit, packBy-set, cell-ind, cell-of, filled-first, filled-second, no-erased, ones-erased, ones-differing}
 
 -- cell k of a packed line
 pub cell-of-line : {n : ℕ} {cs : List ℕ} {l : Line} (k : ℕ) → Packs n cs l → value (l .ones) / 2 ^ k % 2 + 2 * (value (l .erased) / 2 ^ k % 2) ≡ cell cs k
@@ -56,6 +56,13 @@ filled-one {cs} f p = record { room = p .room; cells = filled-word One f (p .cel
 pub filled-two : {n : ℕ} {cs : List ℕ} {l : Line} (f : ℕ) → Packs n cs l → PacksWord n (filled Two cs f) (bitXor (bitOr (value (l .ones)) (bitAnd (value (l .erased)) f)) (value (l .erased)))
 filled-two {cs} f p =
     record { room = p .room; cells = filled-word Two f (p .cells); ones = rw (p .ones, p .erased, filled-first cs f (p .cells .small)) (filled-second cs f (p .cells .small)) }
+
+-- the words of a line of n cells are below 2^n
+pub ones-lt : {n : ℕ} {cs : List ℕ} {l : Line} → Packs n cs l → value (l .ones) < 2 ^ n
+ones-lt {n} {cs} p = rw (p .ones, ← p .cells .long) (packBy-lt isOne cs)
+
+pub erased-lt : {n : ℕ} {cs : List ℕ} {l : Line} → Packs n cs l → value (l .erased) < 2 ^ n
+erased-lt {n} {cs} p = rw (p .erased, ← p .cells .long) (packBy-lt isErased cs)
 
 -- a word that packs cells by another name
 pub packed-as : {n : ℕ} {ws : List ℕ} {v w : ℕ} → v ≡ w → PacksWord n ws w → PacksWord n ws v

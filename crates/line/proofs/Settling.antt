@@ -23,7 +23,7 @@ use Rattle.line.specs.Cells.{cell, isErased, erasures, few, filled, desi
 use Rattle.line.specs.Bounded.{Answer, Found, Failed, bounded}
 use Rattle.line.specs.Decoding.{replaced, decoded, message}
 use Rattle.line.specs.working.Settled.{ifNear, settled}
-use Rattle.line.specs.Clauses.{reach, cost, clause}
+use Rattle.line.specs.Clauses.{reach, same, agrees, firstFit, byReach, cost, clause}
 use Rattle.line.specs.working.Packed.{Packs}
 use Rattle.words.specs.working.Word.{value}
 use Rattle.line.specs.working.Tries.{Answers, failed, found}
@@ -34,6 +34,7 @@ use Rattle.line.proofs.Distances.{bounded-decoder}
 use Rattle.line.proofs.ClauseLaws.{changed, clause-settles}
 use Rattle.line.proofs.CountLaws.{few-cost}
 use Rattle.line.proofs.Reaching.{many-clause}
+use Rattle.line.proofs.Starting.{equal-start}
 
 -- ---- an answer, where it is in reach
 
@@ -61,6 +62,42 @@ halving (Open s) = true
 halving Afresh = false
 halving Channel = false
 
+-- all clauses but the first
+abbrev unequal : Clause → Bool
+unequal Equal = false
+unequal Crowded = true
+unequal Both = true
+unequal Neither = true
+unequal (Agreeing s) = true
+unequal (Unchanged s) = true
+unequal (Open s) = true
+unequal Afresh = true
+unequal Channel = true
+
+fit-unequal : (r1 r2 u a1 a2 s1 s2 : Bool) → unequal (firstFit r1 r2 u a1 a2 s1 s2) ≡ true
+fit-unequal true true u a1 a2 s1 s2 = refl
+fit-unequal true false u true a2 s1 s2 = refl
+fit-unequal true false u false a2 s1 true = refl
+fit-unequal true false u false a2 s1 false = refl
+fit-unequal false true u a1 true s1 s2 = refl
+fit-unequal false true u a1 false true s2 = refl
+fit-unequal false true u a1 false false s2 = refl
+fit-unequal false false true a1 a2 s1 s2 = refl
+fit-unequal false false false a1 a2 s1 s2 = refl
+
+reach-unequal : (dec : List ℕ → Answer) (y r : List ℕ) (f k : ℕ) → unequal (byReach dec y r f k) ≡ true
+unfolding byReach
+reach-unequal dec y r f k =
+    fit-unequal (reach dec y r f k One) (reach dec y r f k Two) (isErased (cell r k)) (agrees dec y r f k One) (agrees dec y r f k Two) (same dec y r f k One) (same dec y r f k Two)
+
+-- where it is the first that fits, its test holds
+only-equal : (t u v w : Bool) (x : Clause) → unequal x ≡ true → Equal ≡ cond t (cond u Equal (cond v x Crowded)) (cond w Afresh Channel) → u ≡ true
+only-equal true true v w x h e = refl
+only-equal true false true w x h e = absurd (true≢false (sym h ∙ sym (ap unequal e)))
+only-equal true false false w x h e = absurd (true≢false (sym (ap unequal e)))
+only-equal false u v true x h e = absurd (true≢false (sym (ap unequal e)))
+only-equal false u v false x h e = absurd (true≢false (sym (ap unequal e)))
+
 module _ {d : Degree} {ys rs : List ℕ} {f k : ℕ} {b : Base} (hk : k < size d) (B : Based d ys rs f b) where
   -- the incoming line and the channel line, packed
   p : Packs (size d) ys (b .incoming)
@@ -82,16 +119,25 @@ module _ {d : Degree} {ys rs : List ℕ} {f k : ℕ} {b : Base} (hk : k < size d
           let t = eqb (erasures ys) designedDistance && (eqb (cell ys k) 2 && not (eqb (cell rs k) 2)) in
           absurd (true≢false (sym h ∙ ap halving (e ∙ sym (many-clause d ys rs f k (p .cells) (q .cells) hk g t refl)) ∙ none t))
 
-  pub equal-cell : {v : ℕ} → Equal ≡ clause (bounded d) ys rs f k → v ≡ cell (start d ys rs f) k → v ≡ settled (bounded d) ys rs f k Equal
-  unfolding settled start
-  equal-cell e g = rw (few-of e refl) at g
+  -- the clause equal names equal cells
+  equal-cells : Equal ≡ clause (bounded d) ys rs f k → cell ys k ≡ cell rs k
+  unfolding clause
+  equal-cells e =
+      let fresh = eqb (erasures ys) designedDistance && (isErased (cell ys k) && not (isErased (cell rs k))) in
+      eqb-true (cell ys k) (cell rs k)
+      (only-equal (few ys) (eqb (cell ys k) (cell rs k)) (few (replaced ys rs k)) fresh (byReach (bounded d) ys rs f k) (reach-unequal (bounded d) ys rs f k) e)
 
-  pub tried-at : {c : Clause} → c ≡ clause (bounded d) ys rs f k → halving c ≡ true → (s : Side) {t : Tried} → t ≡ triedOf b s → Answers (size d) (bounded d (filled s ys f)) t
-  tried-at e h s g = subst (Answers (size d) (bounded d (filled s ys f))) (sym g) (go s)
+  pub equal-cell : {v : ℕ} → Equal ≡ clause (bounded d) ys rs f k → v ≡ cell (start d ys rs f) k → v ≡ settled (bounded d) ys rs f k Equal
+  unfolding settled
+  equal-cell e g = g ∙ equal-start d ys rs f (few-of e refl) k (rw (q .cells .long) hk) (equal-cells e)
+
+  -- what filling s gave, where the erasures are few
+  pub tried-few : few ys ≡ true → (s : Side) {t : Tried} → t ≡ triedOf b s → Answers (size d) (bounded d (filled s ys f)) t
+  tried-few e s g = subst (Answers (size d) (bounded d (filled s ys f))) (sym g) (go s)
     where
       go : (s : Side) → Answers (size d) (bounded d (filled s ys f)) (triedOf b s)
-      go One = B .one (few-of e h) .tried .answer
-      go Two = B .two (few-of e h) .tried .answer
+      go One = B .one e .tried .answer
+      go Two = B .two e .tried .answer
 
   -- a cell that is decoded afresh has 5 erasures in its line
   pub fresh-few : Afresh ≡ clause (bounded d) ys rs f k → few (replaced ys rs k) ≡ true

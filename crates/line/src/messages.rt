@@ -19,6 +19,7 @@ use crate::packed::differing;
 use crate::packed::erased_of;
 use crate::packed::fill;
 use crate::packed::full;
+use crate::packed::known_else;
 use crate::packed::known_only_in;
 use crate::packed::put;
 use crate::packed::word_of;
@@ -36,7 +37,7 @@ use words::word::without;
 use words::word::xor_words;
 use words::word::zero_word;
 ghost use mathlib.Core.Path.{_≡_};
-ghost use mathlib.Core.Bool.{true, false, _&&_};
+ghost use mathlib.Core.Bool.{true, false, not, _&&_};
 ghost use mathlib.Core.List.{List};
 ghost use Prim.Native.Nat.{ℕ, _+_, _*_, _<_, _≤_};
 ghost use lib.Dec.{eqb};
@@ -46,9 +47,9 @@ ghost use Rattle.line.specs.working.Tables.{TablesOf};
 ghost use Rattle.line.specs.working.Packed.{IsLine, Packs};
 ghost use Rattle.line.specs.Cells.{cell, erasures, few, bit, filled, designedDistance};
 ghost use Rattle.line.specs.Bounded.{Answer, bounded, orBack};
-ghost use Rattle.line.specs.Decoding.{replaced, message, messages, decoded};
+ghost use Rattle.line.specs.Decoding.{choice, replaced, message, messages, decoded};
 ghost use Rattle.line.specs.working.Settled.{ifNear, instead, settled};
-ghost use Rattle.line.specs.Clauses.{cost, clause, count};
+ghost use Rattle.line.specs.Clauses.{answerCell, cost, clause, count};
 ghost use Rattle.words.specs.working.Word.{value, width};
 ghost use Rattle.line.specs.working.Tries.{Answers};
 ghost use Rattle.line.specs.working.Fillings.{TrialOf, BothOf, Based, Masks, start, stays, oneCodeword, quiet, triedOf};
@@ -67,6 +68,14 @@ fn answer_at(z: Line, t: Tried, k: u32) -> u64
     ensures { λ r. ⌜ ((n : ℕ) (zs : List ℕ) (p : Answer) → Packs n zs z → Answers n p t → r ≡ cell (orBack zs p) k) ⌝ }
 {
     cell_at(or_back(z, t), k)
+}
+
+// The incoming line with cell k put to what the channel has there.
+fn replaced_line(d: Degree, b: Base, k: u32) -> Line
+    requires { ⌜ k < width ⌝ }
+    ensures { λ z. ⌜ ((ys rs : List ℕ) (f : ℕ) → k < size d → Based d ys rs f b → Packs (size d) (replaced ys rs k) z) ⌝ }
+{
+    put(b.incoming, k, cell_at(b.channel, k))
 }
 
 // What a filling found, where it is in reach at the cell.
@@ -91,6 +100,23 @@ fn tried_of(b: Base, s: Side) -> Tried
         Side::One => b.one.tried,
         Side::Two => b.two.tried,
     }
+}
+
+// Cell k of what filling s found.
+fn reached_cell(d: Degree, s: Side, k: u32, b: Base) -> u64
+    requires { ⌜ k < width ⌝ }
+    ensures { λ r. ⌜ ((ys rs : List ℕ) (f : ℕ) → k < size d → Based d ys rs f b → few ys ≡ true → r ≡ answerCell (bounded d) ys rs f k (bounded d (filled s ys f))) ⌝ }
+{
+    answer_at(replaced_line(d, b, k), tried_of(b, s), k)
+}
+
+// Cell k of the choice between what both fillings found, by the replaced line.
+fn chosen_cell(d: Degree, k: u32, b: Base) -> u64
+    requires { ⌜ k < width ⌝ }
+    ensures { λ r. ⌜ ((ys rs : List ℕ) (f : ℕ) → k < size d → Based d ys rs f b → few ys ≡ true → r ≡ answerCell (bounded d) ys rs f k (choice (replaced ys rs k) (bounded d (filled Side.One ys f)) (bounded d (filled Side.Two ys f)))) ⌝ }
+{
+    let z = replaced_line(d, b, k);
+    answer_at(z, choose(z, b.one.tried, b.two.tried), k)
 }
 
 // The choice with a new answer for one filling.
@@ -147,7 +173,6 @@ fn settle(d: Degree, v: Clause, k: u32, b: Base, count: u64, tables: &LineTables
     ensures { λ m. ⌜ (m .count ≤ count + 2) × ((ys rs : List ℕ) (f : ℕ) → k < size d → Based d ys rs f b → v ≡ clause (bounded d) ys rs f k → (m .cell ≡ settled (bounded d) ys rs f k v) × (m .count ≡ count + cost v)) ⌝ }
 {
     let c = cell_at(b.channel, k);
-    let z = put(b.incoming, k, c);
     match v {
         Clause::Equal => Settled {
             cell: cell_at(b.own, k),
@@ -155,20 +180,20 @@ fn settle(d: Degree, v: Clause, k: u32, b: Base, count: u64, tables: &LineTables
         },
         Clause::Crowded => Settled { cell: 2, count },
         Clause::Both => Settled {
-            cell: answer_at(z, choose(z, b.one.tried, b.two.tried), k),
+            cell: chosen_cell(d, k, b),
             count,
         },
         Clause::Neither => Settled { cell: c, count },
         Clause::Agreeing(s) => Settled {
-            cell: answer_at(z, tried_of(b, s), k),
+            cell: reached_cell(d, s, k, b),
             count,
         },
         Clause::Unchanged(s) => Settled {
-            cell: answer_at(z, tried_of(b, s), k),
+            cell: reached_cell(d, s, k, b),
             count,
         },
-        Clause::Open(s) => open_cell(d, z, c, k, s, b, count, tables),
-        Clause::Afresh => fresh_cell(d, z, k, b.filling, count, tables),
+        Clause::Open(s) => open_cell(d, replaced_line(d, b, k), c, k, s, b, count, tables),
+        Clause::Afresh => fresh_cell(d, replaced_line(d, b, k), k, b.filling, count, tables),
         Clause::Channel => Settled { cell: c, count },
     }
 }
@@ -210,12 +235,13 @@ fn both_tried(d: Degree, y: Line, filling: Word, erased: u32, tables: &LineTable
     }
 }
 
-// The line that the messages start from: the line's own decoding, or with many erasures the channel line.
+// The line that the messages start from: what the line decodes to, or where that fails its cells with those that the channel knows put
+// in; with many erasures the channel line.
 fn start_line(d: Degree, y: Line, r: Line, erased: u32, t: Both) -> Line
     ensures { λ l. ⌜ ((ys rs : List ℕ) (f : ℕ) → Packs (size d) ys y → Packs (size d) rs r → erased ≡ erasures ys → BothOf d ys f t → Packs (size d) (start d ys rs f) l) ⌝ }
 {
     if erased < Line::DISTANCE {
-        or_back(y, choose(y, t.one, t.two))
+        or_back(known_else(r, y), choose(y, t.one, t.two))
     } else {
         r
     }
@@ -280,6 +306,13 @@ fn one_codeword(one: Tried, two: Tried) -> bool
     (one.found & two.found) & same_word(one.word, two.word)
 }
 
+// Did both fillings fail?
+fn no_codeword(one: Tried, two: Tried) -> bool
+    ensures { λ r. ⌜ r ≡ (not (one .found) && not (two .found)) ⌝ }
+{
+    !one.found & !two.found
+}
+
 // The cells that differ from the channel's, or with exactly 6 erasures those known only there: at all others the message is the
 // cell of the base line.
 fn mask_of(d: Degree, y: Line, r: Line, erased: u32) -> Word
@@ -295,7 +328,8 @@ fn mask_of(d: Degree, y: Line, r: Line, erased: u32) -> Word
 }
 
 // The cells that are settled one by one, by masks. Where both fillings decoded to one codeword, it is the message of each cell at
-// which it stays in reach of both, and it is the base line.
+// which it stays in reach of both, and it is the base line. Where both failed, the message is the channel's cell wherever that is known,
+// and so is the base line's cell.
 fn left_by_masks(d: Degree, b: Base) -> Word
     ensures { λ m. ⌜ ((ys rs : List ℕ) (f : ℕ) → Based d ys rs f b → Masks d ys rs f (value m)) ⌝ }
 {
@@ -306,6 +340,8 @@ fn left_by_masks(d: Degree, b: Base) -> Word
             all,
             or_words(leaving(b.one), or_words(leaving(b.two), crowded)),
         )
+    } else if (b.erased < Line::DISTANCE) & no_codeword(b.one.tried, b.two.tried) {
+        and_words(all, erased_of(b.channel))
     } else {
         all
     }

@@ -24,7 +24,7 @@ ghost use Rattle.degree.specs.Degree.{size};
 ghost use Rattle.line.specs.Cells.{cell, erasures, distance, filled};
 ghost use Rattle.words.specs.working.Word.{value, width};
 ghost use Rattle.line.specs.Encoding.{checkSize, messageSize};
-ghost use Rattle.line.specs.working.Packed.{Packs, PacksWord, sideWord};
+ghost use Rattle.line.specs.working.Packed.{Packs, PacksWord, sideWord, knownElse};
 
 // Bit i of `ones` says that cell i is 1, bit i of `erased` that it is unsure.
 pub struct Line {
@@ -199,6 +199,16 @@ pub fn known_only_in(a: Line, b: Line) -> Word
     ensures { λ r. ⌜ value r ≡ bitXor (value (a .erased)) (bitAnd (value (a .erased)) (value (b .erased))) ⌝ }
 {
     without(a.erased, b.erased)
+}
+
+// The cells of the first line where they are known, and those of the second elsewhere.
+pub fn known_else(a: Line, b: Line) -> Line
+    ensures { λ r. ⌜ ((n : ℕ) (cs es : List ℕ) → Packs n cs a → Packs n es b → Packs n (knownElse cs es) r) ⌝ }
+{
+    Line {
+        ones: or_words(a.ones, and_words(a.erased, b.ones)),
+        erased: and_words(a.erased, b.erased),
+    }
 }
 
 // ---- from cells in bytes to a packed line, and back

@@ -16,10 +16,10 @@ use Rattle.line.specs.declared.clause.Trial.{Trial}
 use Rattle.line.specs.declared.clause.Seen.{Seen}
 use Rattle.line.specs.declared.clause.Base.{Base}
 use Rattle.line.specs.Cells.{cell, erasures, few, filled, designedDistance, radius}
-use Rattle.line.specs.Bounded.{bounded}
-use Rattle.line.specs.Decoding.{decoded, message}
+use Rattle.line.specs.Bounded.{bounded, orBack}
+use Rattle.line.specs.Decoding.{decode, message}
 use Rattle.line.specs.Clauses.{reach, same, answerCell, after, cost, clause}
-use Rattle.line.specs.working.Packed.{Packs, PacksWord}
+use Rattle.line.specs.working.Packed.{Packs, PacksWord, knownElse}
 use Rattle.words.specs.working.Word.{value}
 use Rattle.line.specs.working.Tries.{Decodes}
 
@@ -37,9 +37,10 @@ module _ (d : Degree) (ys rs : List ℕ) (f : ℕ) where
     pub value : v .value ≡ answerCell (bounded d) ys rs f k (bounded d (filled s ys f))
     pub bit : v .bit ≡ cell (after (bounded d) ys rs f k s) k
 
-  -- the line that the messages start from
+  -- the line that the messages start from: with few erasures what the line decodes to, or where that fails its cells with those that
+  -- the channel knows put in
   unfoldable pub start : List ℕ
-  start = cond (few ys) (decoded (bounded d) ys f) rs
+  start = cond (few ys) (orBack (knownElse rs ys) (decode (bounded d) ys f)) rs
 
   -- what is known of a line before its cells are settled; of its fillings only where it has few erasures
   pub record Based (b : Base) : Type 0 where

@@ -1,16 +1,17 @@
 -- What packed lines and words say of lists of cells: bit i stands for cell i.
 use mathlib.Core.Path.{_≡_}
-use mathlib.Core.Bool.{Bool, true, false}
+use mathlib.Core.Bool.{Bool, true, false, cond}
 use mathlib.Core.List.{List, [], _∷_}
 use Prim.Native.Nat.{ℕ, _+_, _*_, _≤_}
 use lib.Dec.{eqb}
-use lib.ListN.{getD}
+use lib.ListN.{length, getD}
 use Rattle.line.specs.declared.side.Side.{Side}
 use Rattle.line.specs.declared.side.Side.the-variants.{One, Two}
 use Rattle.words.specs.declared.word.Word.{Word}
 use Rattle.line.specs.declared.packed.Line.{Line}
 use Rattle.words.specs.working.Word.{value, width, noCells}
-use Rattle.line.specs.Cells.{Cells, bit, isErased}
+use Rattle.line.specs.Cells.{Cells, bit, cell, isErased}
+use Rattle.line.specs.Decoding.{listTo}
 
 -- a line of n cells, which are 0, 1 or 2
 abbrev pub IsLine : ℕ → List ℕ → Type 0
@@ -36,6 +37,10 @@ pub record Packs (n : ℕ) (cs : List ℕ) (l : Line) : Type 0 where
   pub cells : Cells 3 n cs
   pub ones : value (l .ones) ≡ packBy isOne cs
   pub erased : value (l .erased) ≡ packBy isErased cs
+
+-- the cells of a line where they are known, and those of another line elsewhere
+unfoldable pub knownElse : List ℕ → List ℕ → List ℕ
+knownElse cs es = listTo (λ k. cond (isErased (cell cs k)) (cell es k) (cell cs k)) (length cs)
 
 -- word one and word two of a pair
 abbrev pub sideWord : Side → List Word → Word

@@ -2,28 +2,19 @@
 -- Assumes nothing.
 use mathlib.Core.Path.{_≡_, refl, sym, _∙_}
 use mathlib.Core.List.{List}
-use Prim.Native.Nat.{ℕ, _<_}
+use Prim.Native.Nat.{ℕ}
 use native.Mathlib.Omega.{arith}
 use borrow.Author.Needs.{needs}
-use Rattle.degree.specs.Degree.{size}
-use Rattle.line.specs.declared.side.Side.the-variants.{One, Two}
 use Rattle.line.specs.Cells.{cell}
-use Rattle.line.specs.Decoding.{replaced}
 use Rattle.line.specs.working.Settled.{settled}
-use Rattle.line.specs.working.Packed.{Packs}
 use Rattle.line.specs.working.Fillings.{Based}
-use Rattle.line.proofs.Settling.{replaced-line, equal-cell, tried-at, few-of, fresh-count}
+use Rattle.line.proofs.Settling.{equal-cell, few-of, fresh-count}
 use Rattle.line.proofs.messages.settle.Statement.{statement}
 use Rattle.line.proofs.messages.settle.Tie as tie
 
--- the channel's cell, and the replaced line
-module _ (c : tie.After-put) {ys rs : List ℕ} {f : ℕ} (hk : c .before .before .args .k < size (c .before .before .args .d))
-    (B : Based (c .before .before .args .d) ys rs f (c .before .before .args .b)) where
-  channel : c .before .cell-at .result ≡ cell rs (c .before .before .args .k)
-  channel = c .before .cell-at .ensures .1 _ rs (B .channel)
-
-  line : Packs (size (c .before .before .args .d)) (replaced ys rs (c .before .before .args .k)) (c .put .result)
-  line = replaced-line (B .incoming) (B .channel) hk channel (c .put .ensures _ ys (B .incoming))
+-- the channel's cell
+channel : (c : tie.After-cell-at) {ys rs : List ℕ} {f : ℕ} → Based (c .before .args .d) ys rs f (c .before .args .b) → c .cell-at .result ≡ cell rs (c .before .args .k)
+channel c {rs} B = c .cell-at .ensures .1 _ rs (B .channel)
 
 returns : tie.Need-returns
 unfolding settled
@@ -43,23 +34,21 @@ unfolding settled
 returns-3 c = (
   omega arith,
   λ ys rs f hk B g.
-      let t = c .before .before .enum-told3 .given .1 in
-      let h = sym t ∙ g in
-      let z = line (c .before .before .before .before) hk B in
-      rw t (c .answer-at .ensures _ _ _ z (c .before .choose .ensures _ _ _ _ z (tried-at hk B h refl One refl) (tried-at hk B h refl Two refl)), omega arith),
+      let t = c .before .enum-told3 .given .1 in
+      rw t (c .chosen-cell .ensures ys rs f hk B (few-of hk B (sym t ∙ g) refl), omega arith),
 )
 
 returns-4 : tie.Need-returns-4
 unfolding settled
-returns-4 c = (omega arith, λ ys rs f hk B g. rw (c .enum-told4 .given .1) (channel (c .before .before) hk B, omega arith))
+returns-4 c = (omega arith, λ ys rs f hk B g. rw (c .enum-told4 .given .1) (channel (c .before .before) B, omega arith))
 
 returns-5 : tie.Need-returns-5
 unfolding settled
 returns-5 c = (
   omega arith,
   λ ys rs f hk B g.
-      let v = c .before .before .before .v .given in
-      rw (v .1) (c .answer-at2 .ensures _ _ _ (line (c .before .before .before .before .before) hk B) (tried-at hk B (sym (v .1) ∙ g) refl (v .0 .0) (c .before .tried-of .ensures)), omega arith),
+      let v = c .before .before .v .given in
+      rw (v .1) (c .reached-cell .ensures ys rs f hk B (few-of hk B (sym (v .1) ∙ g) refl), omega arith),
 )
 
 returns-6 : tie.Need-returns-6
@@ -67,8 +56,8 @@ unfolding settled
 returns-6 c = (
   omega arith,
   λ ys rs f hk B g.
-      let v = c .before .before .before .v2 .given in
-      rw (v .1) (c .answer-at3 .ensures _ _ _ (line (c .before .before .before .before .before) hk B) (tried-at hk B (sym (v .1) ∙ g) refl (v .0 .0) (c .before .tried-of2 .ensures)), omega arith),
+      let v = c .before .before .v2 .given in
+      rw (v .1) (c .reached-cell2 .ensures ys rs f hk B (few-of hk B (sym (v .1) ∙ g) refl), omega arith),
 )
 
 returns-7 : tie.Need-returns-7
@@ -76,9 +65,9 @@ unfolding settled
 returns-7 c = (
   omega arith,
   λ ys rs f hk B g.
-      let t = c .before .before .v3 .given .1 in
-      let put = c .before .before .before .before in
-      rw t (c .open-cell .ensures .1 ys rs f hk B (few-of hk B (sym t ∙ g) refl) (line put hk B) (channel put hk B), omega arith),
+      let t = c .before .before .before .v3 .given .1 in
+      let z = c .before .replaced-line .ensures ys rs f hk B in
+      rw t (c .open-cell .ensures .1 ys rs f hk B (few-of hk B (sym t ∙ g) refl) z (channel (c .before .before .before .before .before) B), omega arith),
 )
 
 returns-8 : tie.Need-returns-8
@@ -86,37 +75,36 @@ unfolding settled
 returns-8 c = (
   c .fresh-cell .ensures .0,
   λ ys rs f hk B g.
-      let t = c .before .enum-told5 .given .1 in
-      let whole = rw (B .filling) at (c .fresh-cell .ensures .1 _ (line (c .before .before .before) hk B)) in
+      let t = c .before .before .enum-told5 .given .1 in
+      let z = c .before .replaced-line2 .ensures ys rs f hk B in
+      let whole = rw (B .filling) at (c .fresh-cell .ensures .1 _ z) in
       rw t (whole .0, fresh-count hk B _ _ (sym t ∙ g) (whole .1)),
 )
 
 returns-9 : tie.Need-returns-9
 unfolding settled
-returns-9 c = (omega arith, λ ys rs f hk B g. rw (c .enum-told6 .given .1) (channel (c .before .before) hk B, omega arith))
+returns-9 c = (omega arith, λ ys rs f hk B g. rw (c .enum-told6 .given .1) (channel (c .before .before) B, omega arith))
 
 pub settle-spec : {M : Type 1} → statement M
 settle-spec =
     tie.close
     (tie.spec
     (λ c κs. search needs)
-    (λ c κs. search needs)
     (λ c. search needs)
     (λ c κs. search needs)
     (λ c. search needs)
     (λ c. search needs)
     (λ c κs. search needs)
-    (λ c κs. search needs)
     (λ c. search needs)
     (λ c. search needs)
-    (λ c κs. search needs)
-    (λ c κs. search needs)
-    (λ c. search needs)
-    (λ c κs. search needs)
     (λ c κs. search needs)
     (λ c. search needs)
     (λ c κs. search needs)
     (λ c. search needs)
+    (λ c κs. search needs)
+    (λ c κs. search needs)
+    (λ c. search needs)
+    (λ c κs. search needs)
     (λ c κs. search needs)
     (λ c. search needs)
     returns
