@@ -1,13 +1,12 @@
-// The check sums of a packed word, which is handed over as its two numbers: a word that a function takes as a whole is stored and read
-// back, and that takes longer than the sums.
+// The check sums of a packed word.
 use crate::tables::FieldTables;
 use degree::Degree;
 use words::sums::byte_sum;
-ghost use Prim.Native.Nat.{_+_, _*_, _^_};
+use words::word::Word;
 ghost use Rattle.laws.specs.Digits.{digits};
 ghost use Rattle.field.specs.working.Checks.{IsSyndrome};
 ghost use Rattle.field.specs.working.Tables.{Tables};
-ghost use Rattle.words.specs.working.Word.{width};
+ghost use Rattle.words.specs.working.Word.{value, width};
 
 // The sum of α^i, the sum of α^(3i), and the parity.
 pub struct Syndrome {
@@ -17,11 +16,11 @@ pub struct Syndrome {
 }
 
 // The weights of the cells that hold 1, summed byte by byte: a weight holds the three sums side by side.
-pub fn syndrome_of(d: Degree, low: u64, high: u64, tables: &FieldTables) -> Syndrome
+pub fn syndrome_of(d: Degree, word: Word, tables: &FieldTables) -> Syndrome
     requires { ⌜ Tables d (now tables) ⌝ }
-    ensures { λ r. ⌜ IsSyndrome d (digits width (high * 2 ^ 64 + low)) r ⌝ }
+    ensures { λ r. ⌜ IsSyndrome d (digits width (value word)) r ⌝ }
 {
-    let sum = byte_sum(low, high, tables, 256);
+    let sum = byte_sum(word, tables, 256);
     let s1 = sum % 128;
     let s3 = sum / 128 % 128;
     let parity = sum / 16384;

@@ -45,12 +45,12 @@ filled-drop s zero y f = ap (filled s y) (sym (div-one f))
 filled-drop s (suc k) [] f = refl
 filled-drop s (suc k) (c ∷ cs) f = filled-drop s k cs (f / 2) ∙ ap (filled s (drop k cs)) (sym (shift-more f k))
 
--- the low number serves the cells 0 to 63, the high one those from 64 on
+-- the high number serves the cells from 64 on, the low one those below
 module _ (s : Side) (y : List ℕ) (low high : ℕ) (fits : low < 2 ^ 64) where
+  pub by-high : drop 64 (filled s y (fillingWord low high)) ≡ filled s (drop 64 y) high
+  by-high = filled-drop s 64 y (fillingWord low high) ∙ ap (filled s (drop 64 y)) (pow.high high 64 fits)
+
   pub by-low : take 64 (filled s y (fillingWord low high)) ≡ filled s (take 64 y) low
   by-low =
       filled-take s 64 y (fillingWord low high)
       ∙ unread s 64 (take 64 y) (fillingWord low high) low (rw (length-take 64 y) (min-le-left 64 (length y))) (λ k l. sym (mod-at (fillingWord low high) 64 k l) ∙ ap (λ (x : ℕ). bitAt x k) (pow.low high 64 fits))
-
-  pub by-high : drop 64 (filled s y (fillingWord low high)) ≡ filled s (drop 64 y) high
-  by-high = filled-drop s 64 y (fillingWord low high) ∙ ap (filled s (drop 64 y)) (pow.high high 64 fits)

@@ -6,7 +6,7 @@ use mathlib.Core.List.{List, [], _∷_}
 use Prim.Native.Nat.{ℕ, zero, suc, _+_, _-_, _*_, _/_, _%_, _^_, _<_, _≤_}
 use native.Mathlib.Nat.{zero-mul}
 use native.Mathlib.Omega.{arith}
-use lib.Bits.{bitAnd, bitOr, bitXor, xor-self, xor-zero-r, and-le-l}
+use lib.Bits.{bitAnd, bitOr, bitXor, xor-self, xor-zero-r, and-zero-l, or-zero-r, and-le-l}
 use lib.Count.{ones}
 use lib.Dec.{eqb}
 use lib.ListN.{length, set}
@@ -15,6 +15,7 @@ use Rattle.laws.specs.working.Bits.{xorb}
 use Rattle.laws.proofs.Xor.{bit-ind, xors}
 use Rattle.laws.proofs.Bits.{bit-one, xor-bit, low-bit, half-bit}
 use Rattle.words.specs.working.Pairs.{bitsOf, pairsOf}
+use Rattle.line.specs.declared.side.Side.{Side}
 use Rattle.line.specs.declared.side.Side.the-variants.{One, Two}
 use Rattle.words.specs.declared.word.Word.{Word}
 use Rattle.line.specs.declared.packed.Line.{Line}
@@ -67,6 +68,16 @@ erased-lt {n} {cs} p = rw (p .erased, ← p .cells .long) (packBy-lt isErased cs
 -- a word that packs cells by another name
 pub packed-as : {n : ℕ} {ws : List ℕ} {v w : ℕ} → v ≡ w → PacksWord n ws w → PacksWord n ws v
 packed-as e p = record { room = p .room; cells = p .cells; ones = e ∙ p .ones }
+
+-- without erasures both filled words are the line's own
+pub filled-none : {n : ℕ} {cs : List ℕ} {l : Line} (f : ℕ) → Packs n cs l → value (l .erased) ≡ 0 → (s : Side) → PacksWord n (filled s cs f) (value (l .ones))
+filled-none {l} f p z s = elim s [ One ↦ packed-as (sym one) (filled-one f p) | Two ↦ packed-as (sym two) (filled-two f p) ]
+  where
+    one : bitOr (value (l .ones)) (bitAnd (value (l .erased)) f) ≡ value (l .ones)
+    one = ap (λ (e : ℕ). bitOr (value (l .ones)) (bitAnd e f)) z ∙ ap (bitOr (value (l .ones))) (and-zero-l f) ∙ or-zero-r (value (l .ones))
+
+    two : bitXor (bitOr (value (l .ones)) (bitAnd (value (l .erased)) f)) (value (l .erased)) ≡ value (l .ones)
+    two = ap₂ bitXor one z ∙ xor-zero-r (value (l .ones))
 
 -- a word is a line with no erasure
 pub as-line : {n : ℕ} {ws : List ℕ} {w none : Word} → value none ≡ 0 → PacksWord n ws (value w) → Packs n ws (record { ones = w; erased = none })

@@ -3,8 +3,6 @@ use crate::tables::LineTables;
 use degree::Degree;
 use field::syndrome::syndrome_of;
 use words::word::Word;
-use words::word::high_of;
-use words::word::low_of;
 ghost use mathlib.Core.Path.{_≡_};
 ghost use mathlib.Core.List.{List};
 ghost use Prim.Native.Nat.{ℕ};
@@ -19,6 +17,6 @@ pub fn is_codeword(d: Degree, word: Word, tables: &LineTables) -> bool
     requires { ⌜ TablesOf d (now tables) ⌝ }
     ensures { λ r. ⌜ ((ws : List ℕ) → PacksWord (size d) ws (value word) → r ≡ isCodeword d ws) ⌝ }
 {
-    let s = syndrome_of(d, low_of(word), high_of(word), tables);
+    let s = syndrome_of(d, word, tables);
     (s.parity == 0) & ((s.s1 == 0) & (s.s3 == 0))
 }

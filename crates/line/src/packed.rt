@@ -155,6 +155,19 @@ pub fn fill(l: Line, filling: Word) -> [Word; 2]
     [one, two]
 }
 
+// The same, made for lines that mostly have no erasures, as in a decode: both words are then the line's own, and they are there before
+// the filling word is read.
+pub fn fill_seldom(l: Line, filling: Word) -> [Word; 2]
+    ensures { λ r. ⌜ ((n : ℕ) (cs : List ℕ) → Packs n cs l → (s : Side) → PacksWord n (filled s cs (value filling)) (value (sideWord s r))) ⌝ }
+{
+    if is_zero(l.erased) {
+        let own = l.ones;
+        [own, own]
+    } else {
+        fill(l, filling)
+    }
+}
+
 pub fn word_of(words: [Word; 2], s: Side) -> Word
     ensures { λ r. ⌜ r ≡ sideWord s words ⌝ }
 {

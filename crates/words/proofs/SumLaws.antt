@@ -12,7 +12,7 @@ use native.Mathlib.Omega.{arith}
 use lib.Bits.{bitXor, xor-zero-r}
 use lib.Dec.{eqb}
 use lib.ListN.{getD}
-use lib.Pow.{shr-shr, low, high}
+use lib.Pow.{shr-shr}
 use Rattle.laws.specs.Digits.{sumOver, digits}
 use Rattle.laws.specs.working.Bits.{bitAt}
 use Rattle.laws.specs.working.Sums.{xorTo}
@@ -99,9 +99,5 @@ high-blocks W base t b j x h l =
     shifted j i = omega arith
 
 -- both halves of a number
-pub sum-halves : (W : ℕ → ℕ) (h l : ℕ) → l < 2 ^ 64
-    → bitXor (sumOver W (digits 64 l)) (sumOver (λ i. W (64 + i)) (digits 64 h)) ≡ sumOver W (digits 128 (h * 2 ^ 64 + l))
-sum-halves W h l a =
-    ap₂ (λ (x : List ℕ) (y : ℕ). bitXor (sumOver W x) (sumOver (λ i. W (64 + i)) (digits 64 y)))
-    (ap (digits 64) (sym (low h 64 a)) ∙ digits-low 64 (h * 2 ^ 64 + l)) (sym (high h 64 a))
-    ∙ sum-behind W 64 64 (h * 2 ^ 64 + l)
+pub sum-halves : (W : ℕ → ℕ) (v : ℕ) → bitXor (sumOver W (digits 64 (v % 2 ^ 64))) (sumOver (λ i. W (64 + i)) (digits 64 (v / 2 ^ 64))) ≡ sumOver W (digits 128 v)
+sum-halves W v = ap (λ (x : List ℕ). bitXor (sumOver W x) (sumOver (λ i. W (64 + i)) (digits 64 (v / 2 ^ 64)))) (digits-low 64 v) ∙ sum-behind W 64 64 v

@@ -2,6 +2,8 @@
 use crate::grid::word_in;
 use crate::word::Word;
 use crate::word::bit_at;
+use crate::word::high_of;
+use crate::word::low_of;
 use crate::word::xor_where;
 use crate::word::zero_word;
 ghost use mathlib.Core.Path.{_≡_};
@@ -62,11 +64,11 @@ fn sum_with(sum: u16, number: u64, table: &[u16], base: usize) -> u16
     all
 }
 
-// The sum of the entries at the bytes of a word of two numbers: block j of 256 entries, from `base` on, is for byte j.
-pub fn byte_sum(low: u64, high: u64, table: &[u16], base: usize) -> u16
+// The sum of the entries at the bytes of a word: block j of 256 entries, from `base` on, is for byte j.
+pub fn byte_sum(word: Word, table: &[u16], base: usize) -> u16
     requires { ⌜ base + 4096 ≤ length (now table) ⌝ }
-    ensures { λ r. ⌜ ((W : ℕ → ℕ) → ByteSums W base 16 (now (table .entry)) → r ≡ sumOver W (digits width (high * 2 ^ 64 + low))) ⌝ }
+    ensures { λ r. ⌜ ((W : ℕ → ℕ) → ByteSums W base 16 (now (table .entry)) → r ≡ sumOver W (digits width (value word))) ⌝ }
 {
-    let sum = eight_sum(low, table, base);
-    sum_with(sum, high, table, base + 2048)
+    let sum = eight_sum(low_of(word), table, base);
+    sum_with(sum, high_of(word), table, base + 2048)
 }

@@ -1,14 +1,16 @@
 -- `locate::word_place` meets its contract: the entry of the word's check sums, with its parity above.
 -- Assumes nothing.
-use Prim.Native.Nat.{_+_, _*_, _^_}
 use native.Mathlib.Omega.{arith}
 use borrow.Author.Needs.{needs}
 use Rattle.laws.specs.Digits.{digits}
-use Rattle.words.specs.working.Word.{width}
+use Rattle.words.specs.working.Word.{value, width}
 use Rattle.field.proofs.Reading.{place-parts}
 use Rattle.field.proofs.Weights.{s1-lt, s3-lt}
 use Rattle.field.proofs.locate.word_place.Statement.{statement}
 use Rattle.field.proofs.locate.word_place.Tie as tie
+
+of-numbers-requires : tie.Need-of-numbers-requires
+of-numbers-requires c κs = search needs
 
 syndrome-of-requires : tie.Need-syndrome-of-requires
 syndrome-of-requires c κs = search needs
@@ -16,9 +18,9 @@ syndrome-of-requires c κs = search needs
 place-of-requires : tie.Need-place-of-requires
 place-of-requires c κs =
     let s = c .syndrome-of .ensures in
-    let a = c .before .args in
-    let cells = digits width (a .high * 2 ^ 64 + a .low) in
-    (rw (s .s1) (s1-lt (a .d) cells), rw (s .s3) (s3-lt (a .d) cells), c .before .pre)
+    let d = c .before .before .args .d in
+    let cells = digits width (value (c .before .of-numbers .result)) in
+    (rw (s .s1) (s1-lt d cells), rw (s .s3) (s3-lt d cells), c .before .before .pre)
 
 cast-result : tie.Need-cast-result
 cast-result c = search needs
@@ -33,12 +35,15 @@ add-result : tie.Need-add-result
 add-result c = search needs
 
 returns : tie.Need-returns
-returns c = place-parts _ _ _ (c .before .before .syndrome-of .ensures) (omega arith) (c .before .place-of .ensures)
+returns c =
+    let word = c .before .before .before .of-numbers .ensures in
+    place-parts _ _ _ (rw word at (c .before .before .syndrome-of .ensures)) (omega arith) (c .before .place-of .ensures)
 
 pub word-place-spec : {M : Type 1} → statement M
 word-place-spec =
     tie.close
     (tie.spec
+    of-numbers-requires
     syndrome-of-requires
     place-of-requires
     cast-result

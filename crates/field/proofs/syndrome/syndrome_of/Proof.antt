@@ -2,10 +2,9 @@
 -- Assumes nothing.
 use borrow.Author.Needs.{needs}
 use mathlib.Core.Path.{_∙_}
-use Prim.Native.Nat.{_+_, _*_, _^_}
 use native.Mathlib.Omega.{arith}
 use Rattle.laws.specs.Digits.{digits}
-use Rattle.words.specs.working.Word.{width}
+use Rattle.words.specs.working.Word.{value, width}
 use Rattle.field.specs.working.Tables.{weight}
 use Rattle.field.proofs.Primitive.{primitive}
 use Rattle.field.proofs.Weights.{s1-lt, s3-lt, weight-sum}
@@ -19,7 +18,7 @@ returns : tie.Need-returns
 returns c =
     let s = c .before .before in
     let d = s .args .d in
-    let cells = digits width (s .args .high * 2 ^ 64 + s .args .low) in
+    let cells = digits width (value (s .args .word)) in
     let e = c .byte-sum .ensures (λ i. weight d i) (s .pre .filled .sums) ∙ weight-sum d cells in
     let l1 = s1-lt d cells in
     let l3 = s3-lt d cells in
