@@ -18,7 +18,7 @@ use crate::packed::count_erasures;
 use crate::packed::differing;
 use crate::packed::erased_of;
 use crate::packed::fill;
-use crate::packed::fill_seldom;
+use crate::packed::fill_if_erased;
 use crate::packed::full;
 use crate::packed::known_else;
 use crate::packed::known_only_in;
@@ -215,7 +215,7 @@ fn both_tried(d: Degree, y: Line, filling: Word, erased: u32, tables: &LineTable
     ensures { λ t. ⌜ (t .count ≤ 2) × ((ys : List ℕ) → Packs (size d) ys y → erased ≡ erasures ys → BothOf d ys (value filling) t) ⌝ }
 {
     if erased < Line::DISTANCE {
-        let words = fill_seldom(y, filling);
+        let words = fill_if_erased(y, filling);
         let one = counted(d, words[0], 0, tables);
         let two = counted(d, words[1], one.count, tables);
         let first = one.tried;

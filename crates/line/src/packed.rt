@@ -157,7 +157,7 @@ pub fn fill(l: Line, filling: Word) -> [Word; 2]
 
 // The same, made for lines that mostly have no erasures, as in a decode: both words are then the line's own, and they are there before
 // the filling word is read.
-pub fn fill_seldom(l: Line, filling: Word) -> [Word; 2]
+pub fn fill_if_erased(l: Line, filling: Word) -> [Word; 2]
     ensures { λ r. ⌜ ((n : ℕ) (cs : List ℕ) → Packs n cs l → (s : Side) → PacksWord n (filled s cs (value filling)) (value (sideWord s r))) ⌝ }
 {
     if is_zero(l.erased) {

@@ -9,8 +9,8 @@ use borrow.Author.Needs.{needs}
 use Rattle.line.proofs.messages.both_tried.Statement.{statement}
 use Rattle.line.proofs.messages.both_tried.Tie as tie
 
-fill-seldom-requires : tie.Need-fill-seldom-requires
-fill-seldom-requires c κs = search needs
+fill-if-erased-requires : tie.Need-fill-if-erased-requires
+fill-if-erased-requires c κs = search needs
 
 array-copy-out-counted : tie.Need-array-copy-out-counted
 array-copy-out-counted c = search needs
@@ -34,7 +34,7 @@ returns : tie.Need-returns
 returns c =
     let one = c .before .before .before .before .counted .ensures in
     let two = c .before .before .counted2 .ensures in
-    let w = c .before .before .before .before .before .before .fill-seldom .ensures in
+    let w = c .before .before .before .before .before .before .fill-if-erased .ensures in
     let s = c .before .before .before .before .before .before .before .before in (
       omega (arith, one .0, two .0),
       λ ys p e.
@@ -62,7 +62,7 @@ pub both-tried-spec : {M : Type 1} → statement M
 both-tried-spec =
     tie.close
     (tie.spec
-    fill-seldom-requires
+    fill-if-erased-requires
     array-copy-out-counted
     counted-requires
     array-copy-out-counted-2

@@ -1,4 +1,4 @@
--- `line::packed::fill_seldom` meets its contract: without erasures there is nothing to fill.
+-- `line::packed::fill_if_erased` meets its contract: without erasures there is nothing to fill.
 -- Assumes nothing.
 use mathlib.Core.Path.{sym, _∙_}
 use lib.Dec.{eqb}
@@ -7,8 +7,8 @@ use borrow.Author.Needs.{needs}
 use Rattle.line.specs.declared.side.Side.the-variants.{One, Two}
 use Rattle.words.specs.working.Word.{value}
 use Rattle.line.proofs.Packing.{filled-none}
-use Rattle.line.proofs.packed.fill_seldom.Statement.{statement}
-use Rattle.line.proofs.packed.fill_seldom.Tie as tie
+use Rattle.line.proofs.packed.fill_if_erased.Statement.{statement}
+use Rattle.line.proofs.packed.fill_if_erased.Tie as tie
 
 is-zero-requires : tie.Need-is-zero-requires
 is-zero-requires c κs = search needs
@@ -26,5 +26,5 @@ returns c =
 returns-2 : tie.Need-returns-2
 returns-2 c = search needs
 
-pub fill-seldom-spec : {M : Type 1} → statement M
-fill-seldom-spec = tie.close (tie.spec is-zero-requires fill-requires returns returns-2)
+pub fill-if-erased-spec : {M : Type 1} → statement M
+fill-if-erased-spec = tie.close (tie.spec is-zero-requires fill-requires returns returns-2)
