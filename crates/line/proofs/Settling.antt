@@ -50,53 +50,41 @@ near-at d ys rs f k s t v x a e g h = rw (← e) (near-answer v x a g h)
 
 -- ---- the clauses
 
--- the clauses for fewer than 6 erasures coming in
-abbrev halving : Clause → Bool
-halving Equal = true
-halving Crowded = true
-halving Both = true
-halving Neither = true
-halving (Agreeing s) = true
-halving (Unchanged s) = true
-halving (Open s) = true
-halving Afresh = false
-halving Channel = false
+-- the first clause, the others for fewer than 6 erasures coming in, and those for 6 or more
+abbrev rank : Clause → ℕ
+rank Equal = 0
+rank Crowded = 1
+rank Both = 1
+rank Neither = 1
+rank (Agreeing s) = 1
+rank (Unchanged s) = 1
+rank (Open s) = 1
+rank Afresh = 2
+rank Channel = 2
 
--- all clauses but the first
-abbrev unequal : Clause → Bool
-unequal Equal = false
-unequal Crowded = true
-unequal Both = true
-unequal Neither = true
-unequal (Agreeing s) = true
-unequal (Unchanged s) = true
-unequal (Open s) = true
-unequal Afresh = true
-unequal Channel = true
+fit-rank : (r1 r2 u a1 a2 s1 s2 : Bool) → rank (firstFit r1 r2 u a1 a2 s1 s2) ≡ 1
+fit-rank true true u a1 a2 s1 s2 = refl
+fit-rank true false u true a2 s1 s2 = refl
+fit-rank true false u false a2 s1 true = refl
+fit-rank true false u false a2 s1 false = refl
+fit-rank false true u a1 true s1 s2 = refl
+fit-rank false true u a1 false true s2 = refl
+fit-rank false true u a1 false false s2 = refl
+fit-rank false false true a1 a2 s1 s2 = refl
+fit-rank false false false a1 a2 s1 s2 = refl
 
-fit-unequal : (r1 r2 u a1 a2 s1 s2 : Bool) → unequal (firstFit r1 r2 u a1 a2 s1 s2) ≡ true
-fit-unequal true true u a1 a2 s1 s2 = refl
-fit-unequal true false u true a2 s1 s2 = refl
-fit-unequal true false u false a2 s1 true = refl
-fit-unequal true false u false a2 s1 false = refl
-fit-unequal false true u a1 true s1 s2 = refl
-fit-unequal false true u a1 false true s2 = refl
-fit-unequal false true u a1 false false s2 = refl
-fit-unequal false false true a1 a2 s1 s2 = refl
-fit-unequal false false false a1 a2 s1 s2 = refl
-
-reach-unequal : (dec : List ℕ → Answer) (y r : List ℕ) (f k : ℕ) → unequal (byReach dec y r f k) ≡ true
+reach-rank : (dec : List ℕ → Answer) (y r : List ℕ) (f k : ℕ) → rank (byReach dec y r f k) ≡ 1
 unfolding byReach
-reach-unequal dec y r f k =
-    fit-unequal (reach dec y r f k One) (reach dec y r f k Two) (isErased (cell r k)) (agrees dec y r f k One) (agrees dec y r f k Two) (same dec y r f k One) (same dec y r f k Two)
+reach-rank dec y r f k =
+    fit-rank (reach dec y r f k One) (reach dec y r f k Two) (isErased (cell r k)) (agrees dec y r f k One) (agrees dec y r f k Two) (same dec y r f k One) (same dec y r f k Two)
 
--- where it is the first that fits, its test holds
-only-equal : (t u v w : Bool) (x : Clause) → unequal x ≡ true → Equal ≡ cond t (cond u Equal (cond v x Crowded)) (cond w Afresh Channel) → u ≡ true
+-- where the first clause is the one that fits, its test holds
+only-equal : (t u v w : Bool) (x : Clause) → rank x ≡ 1 → Equal ≡ cond t (cond u Equal (cond v x Crowded)) (cond w Afresh Channel) → u ≡ true
 only-equal true true v w x h e = refl
-only-equal true false true w x h e = absurd (true≢false (sym h ∙ sym (ap unequal e)))
-only-equal true false false w x h e = absurd (true≢false (sym (ap unequal e)))
-only-equal false u v true x h e = absurd (true≢false (sym (ap unequal e)))
-only-equal false u v false x h e = absurd (true≢false (sym (ap unequal e)))
+only-equal true false true w x h e = let z : 0 ≡ rank x = ap rank e in absurd (omega arith)
+only-equal true false false w x h e = let z : _≡_ {A = ℕ} 0 1 = ap rank e in absurd (omega arith)
+only-equal false u v true x h e = let z : _≡_ {A = ℕ} 0 2 = ap rank e in absurd (omega arith)
+only-equal false u v false x h e = let z : _≡_ {A = ℕ} 0 2 = ap rank e in absurd (omega arith)
 
 module _ {d : Degree} {ys rs : List ℕ} {f k : ℕ} {b : Base} (hk : k < size d) (B : Based d ys rs f b) where
   -- the incoming line and the channel line, packed
@@ -106,18 +94,18 @@ module _ {d : Degree} {ys rs : List ℕ} {f k : ℕ} {b : Base} (hk : k < size d
   q : Packs (size d) rs (b .channel)
   q = B .channel
 
-  pub few-of : {c : Clause} → c ≡ clause (bounded d) ys rs f k → halving c ≡ true → few ys ≡ true
+  pub few-of : {c : Clause} → c ≡ clause (bounded d) ys rs f k → eqb (rank c) 2 ≡ false → few ys ≡ true
   few-of {c} e h = go (few ys) refl
     where
-      none : (t : Bool) → halving (cond t Afresh Channel) ≡ false
-      none true = refl
-      none false = refl
+      many : (t : Bool) → eqb (rank (cond t Afresh Channel)) 2 ≡ true
+      many true = refl
+      many false = refl
 
       go : (t : Bool) → few ys ≡ t → t ≡ true
       go true g = refl
       go false g =
           let t = eqb (erasures ys) designedDistance && (eqb (cell ys k) 2 && not (eqb (cell rs k) 2)) in
-          absurd (true≢false (sym h ∙ ap halving (e ∙ sym (many-clause d ys rs f k (p .cells) (q .cells) hk g t refl)) ∙ none t))
+          absurd (true≢false (sym (many t) ∙ ap (λ (x : Clause). eqb (rank x) 2) (many-clause d ys rs f k (p .cells) (q .cells) hk g t refl ∙ sym e) ∙ h))
 
   -- the clause equal names equal cells
   equal-cells : Equal ≡ clause (bounded d) ys rs f k → cell ys k ≡ cell rs k
@@ -125,7 +113,7 @@ module _ {d : Degree} {ys rs : List ℕ} {f k : ℕ} {b : Base} (hk : k < size d
   equal-cells e =
       let fresh = eqb (erasures ys) designedDistance && (isErased (cell ys k) && not (isErased (cell rs k))) in
       eqb-true (cell ys k) (cell rs k)
-      (only-equal (few ys) (eqb (cell ys k) (cell rs k)) (few (replaced ys rs k)) fresh (byReach (bounded d) ys rs f k) (reach-unequal (bounded d) ys rs f k) e)
+      (only-equal (few ys) (eqb (cell ys k) (cell rs k)) (few (replaced ys rs k)) fresh (byReach (bounded d) ys rs f k) (reach-rank (bounded d) ys rs f k) e)
 
   pub equal-cell : {v : ℕ} → Equal ≡ clause (bounded d) ys rs f k → v ≡ cell (start d ys rs f) k → v ≡ settled (bounded d) ys rs f k Equal
   unfolding settled
