@@ -8,6 +8,7 @@ use crate::machine::Machine;
 use crate::plain::{Code, Degree};
 use crate::random::Random;
 use crate::timing::stopwatch::{Load, Setting, Stopwatch, median};
+use std::time::{Duration, Instant};
 
 const DEGREES: [Degree; 2] = [Degree::Six, Degree::Seven];
 
@@ -36,6 +37,7 @@ pub fn times(mut arguments: Arguments) -> Result<(), Failure> {
         stopwatch: Stopwatch::new(rounds),
         random: Random::new(seed),
     };
+    bench.warm_up();
     let tables = DEGREES.map(|degree| Table::of(degree, &mut bench));
     println!(
         "From `bench times --arrays {arrays} --rounds {rounds} --seed {seed}`: {}.",
@@ -54,6 +56,17 @@ struct Bench {
 }
 
 impl Bench {
+    /// Decodes for a second and forgets how long that took: a processor that was idle is slow at first. The arrays have draws of
+    /// their own.
+    fn warm_up(&mut self) {
+        let began = Instant::now();
+        let kind = Kind::in_64_lines(Degree::Six, 40, 60);
+        let load = kind.load(Degree::Six, 4, self.arrays, &mut Random::new(1));
+        while began.elapsed() < Duration::from_secs(1) {
+            self.stopwatch.runs(&load);
+        }
+    }
+
     fn times(&mut self, degree: Degree, kind: Kind, iterations: u64) -> Times {
         let load = kind.load(degree, iterations, self.arrays, &mut self.random);
         Times::of(kind.name(), iterations, &self.stopwatch.runs(&load))
