@@ -127,7 +127,7 @@ impl Plot {
             label(centre, 26.0, "middle", &self.title, r#" font-size="15""#),
             label(centre, BOTTOM + 44.0, "middle", &self.x.label, ""),
             label(24.0, middle, "middle", &self.y.label, &turned),
-            label(RIGHT, BOTTOM + 68.0, "end", &self.source, small),
+            label(LEFT, BOTTOM + 68.0, "start", &self.source, small),
         ]
     }
 
