@@ -29,7 +29,7 @@ use Rattle.words.proofs.GridLaws.{put-long, put-same, put-other, put-small, wor
 use Rattle.array.specs.Arrays.{line, lines}
 use Rattle.array.specs.working.PackedRows.{withLine, RowWords, Held, LineIn, LinePut, RowsTurned}
 use Rattle.array.specs.working.Steps.{IsArray}
-use Rattle.array.proofs.ArrayLaws.{Even, line-room, length-line, line-small, line-cells, transpose-cells, each-cell, line-at, length-lines, lines-are}
+use Rattle.array.proofs.ArrayLaws.{Even, line-room, line-small, line-cells, transpose-cells, each-cell, line-at, length-lines, lines-are}
 use Rattle.array.proofs.WrittenLines.{part-at}
 use Rattle.array.proofs.WordLaws.{length-line-le, line-past, words-turned}
 

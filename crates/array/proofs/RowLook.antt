@@ -3,7 +3,6 @@
 use mathlib.Core.Path.{_≡_}
 use mathlib.Core.List.{List, []}
 use Prim.Native.Nat.{ℕ, _<_}
-use native.Mathlib.Omega.{arith}
 use Rattle.degree.specs.declared.Degree.{Degree}
 use Rattle.degree.specs.declared.Named.the-variants.{Known}
 use lib.Pow.{pow-pos}

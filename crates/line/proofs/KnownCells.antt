@@ -17,7 +17,7 @@ use Rattle.line.specs.Cells.{Cells, cell, isErased}
 use Rattle.line.specs.working.Packed.{isOne, packBy, Packs, knownElse}
 use Rattle.line.proofs.LineLaw.{listTo-cell, listTo-cells}
 use Rattle.line.proofs.PackBits.{packBy-lt, packBy-bit, cell-ind}
-use Rattle.line.proofs.Packing.{ones-lt, erased-lt}
+use Rattle.line.proofs.Packing.{one-at, erased-at, ones-lt, erased-lt}
 
 -- ---- cell by cell
 
@@ -80,14 +80,8 @@ module _ {n : ℕ} {cs es : List ℕ} {a b : Line} (p : Packs n cs a) (q : Packs
     ones = eo
         ∙ by-bits isOne refl _ (or-lt n _ _ (ones-lt p) (and-lt n _ _ (erased-lt p) (ones-lt q)))
         (λ k. or-at (value (a .ones)) (bitAnd (value (a .erased)) (value (b .ones))) k
-        ∙ ap₂ bitOr (one p k) (and-at (value (a .erased)) (value (b .ones)) k ∙ ap₂ bitAnd (unsure p k) (one q k)) ∙ one-bit (p .cells .small k) (q .cells .small k));
+        ∙ ap₂ bitOr (one-at k p) (and-at (value (a .erased)) (value (b .ones)) k ∙ ap₂ bitAnd (erased-at k p) (one-at k q)) ∙ one-bit (p .cells .small k) (q .cells .small k));
     erased = ee
         ∙ by-bits isErased refl _ (and-lt n _ _ (erased-lt p) (erased-lt q))
-        (λ k. and-at (value (a .erased)) (value (b .erased)) k ∙ ap₂ bitAnd (unsure p k) (unsure q k) ∙ erased-bit (p .cells .small k) (q .cells .small k));
+        (λ k. and-at (value (a .erased)) (value (b .erased)) k ∙ ap₂ bitAnd (erased-at k p) (erased-at k q) ∙ erased-bit (p .cells .small k) (q .cells .small k));
   }
-    where
-      one : {ds : List ℕ} {l : Line} → Packs n ds l → (k : ℕ) → bitAt (value (l .ones)) k ≡ bit (isOne (cell ds k))
-      one {ds} p k = rw (p .ones) (packBy-bit isOne refl ds k)
-
-      unsure : {ds : List ℕ} {l : Line} → Packs n ds l → (k : ℕ) → bitAt (value (l .erased)) k ≡ bit (isErased (cell ds k))
-      unsure {ds} p k = rw (p .erased) (packBy-bit isErased refl ds k)

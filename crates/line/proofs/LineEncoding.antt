@@ -25,7 +25,6 @@ use Rattle.degree.specs.Degree.{bits, size, order}
 use Rattle.field.specs.Field.{double, timesPower, power}
 use Rattle.laws.specs.Digits.{sumOver, ones, digits}
 use Rattle.laws.specs.working.Digits.{pack}
-use Rattle.field.specs.Syndrome.{parity}
 use Rattle.field.proofs.Powers.{power-lt}
 use Rattle.line.specs.Codeword.{Codeword}
 use Rattle.line.proofs.CellLaws.{Bits, take-bits}

@@ -1,10 +1,10 @@
 -- Masks of a line: the messages of the cells that they leave out are the cells of the line that the messages start from.
 -- Assumes nothing.
-use mathlib.Core.Path.{_≡_, refl, sym, ap, ap₂, _∙_}
+use mathlib.Core.Path.{_≡_, refl, sym, ap₂, _∙_}
 use mathlib.Core.Bool.{Bool, true, false, _&&_, not}
 use mathlib.Core.Logic.{_≢_}
 use mathlib.Core.List.{List}
-use Prim.Native.Nat.{ℕ, _+_, _*_, _/_, _%_, _^_, _≤_, _<_}
+use Prim.Native.Nat.{ℕ, _+_, _*_, _≤_, _<_}
 use native.Mathlib.Omega.{arith}
 use lib.Bits.{bitAnd, bitOr, bitXor, or-lt, xor-lt, and-lt}
 use lib.Dec.{eqb}
@@ -26,8 +26,7 @@ use Rattle.line.specs.Decoding.{message}
 use Rattle.line.specs.Clauses.{cost, clause}
 use Rattle.line.specs.working.Settled.{settled}
 use Rattle.line.specs.working.Fillings.{Masks, start}
-use Rattle.line.proofs.PackBits.{packBy-bit}
-use Rattle.line.proofs.Packing.{cell-of-line, ones-lt, erased-lt}
+use Rattle.line.proofs.Packing.{erased-at, cell-of-line, ones-lt, erased-lt}
 use Rattle.line.proofs.Choosing.{is-few, is-many}
 use Rattle.line.proofs.ClauseLaws.{clause-settles}
 use Rattle.line.proofs.Reaching.{equal-clause, many-clause}
@@ -86,10 +85,8 @@ module _ (d : Degree) (ys rs : List ℕ) (f : ℕ) {y r : Line} (p : Packs (size
   known-there : (k : ℕ) → bitAt (bitXor (value (y .erased)) (bitAnd (value (y .erased)) (value (r .erased)))) k ≡ 0 → (eqb (cell ys k) 2 && not (eqb (cell rs k) 2)) ≡ false
   known-there k z =
       not-fresh (isErased (cell ys k)) (isErased (cell rs k))
-      (sym (xor-at (value (y .erased)) (bitAnd (value (y .erased)) (value (r .erased))) k ∙ ap₂ bitXor (at p) (and-at (value (y .erased)) (value (r .erased)) k ∙ ap₂ bitAnd (at p) (at q))) ∙ z)
-    where
-      at : {cs : List ℕ} {l : Line} → Packs (size d) cs l → bitAt (value (l .erased)) k ≡ bit (isErased (cell cs k))
-      at {cs} p = rw (p .erased) (packBy-bit isErased refl cs k)
+      (sym (xor-at (value (y .erased)) (bitAnd (value (y .erased)) (value (r .erased))) k
+      ∙ ap₂ bitXor (erased-at k p) (and-at (value (y .erased)) (value (r .erased)) k ∙ ap₂ bitAnd (erased-at k p) (erased-at k q))) ∙ z)
 
   channel-rest : designedDistance ≤ e → (k : ℕ) → k < size d → (eqb (erasures ys) designedDistance && (eqb (cell ys k) 2 && not (eqb (cell rs k) 2))) ≡ false → Left-out k
   channel-rest l k hk z =

@@ -1,7 +1,7 @@
 -- Where both fillings fail, the message of a cell that the channel knows is the channel's.
 -- Assumes nothing.
-use mathlib.Core.Path.{_≡_, refl, sym, ap, _∙_}
-use mathlib.Core.Bool.{Bool, true, false, _&&_, not, true≢false, and-false}
+use mathlib.Core.Path.{_≡_, refl, sym, _∙_}
+use mathlib.Core.Bool.{true, false, _&&_, not, true≢false, and-false}
 use mathlib.Core.Logic.{_⊎_, inl, inr}
 use mathlib.Core.List.{List}
 use Prim.Native.Nat.{ℕ, _+_, _<_}
@@ -31,7 +31,7 @@ use Rattle.line.proofs.ClauseLaws.{clause-settles}
 use Rattle.line.proofs.Reaching.{reach-clause}
 use Rattle.line.proofs.KnownCells.{known-first}
 use Rattle.line.proofs.Masking.{equal-outside}
-use Rattle.line.proofs.OneCodeword.{crowding-at}
+use Rattle.line.proofs.Packing.{known-at}
 
 not-found : {n : ℕ} {p : Answer} {t : Tried} → Answers n p t → t .found ≡ false → p ≡ Failed
 not-found (failed g) h = refl
@@ -75,4 +75,4 @@ module _ (d : Degree) (ys rs : List ℕ) (f : ℕ) {b : Base} (B : Based d ys rs
         where
           go : (bitAt a k ≡ 0) ⊎ (bitAt u k ≡ 0) → (cell (start d ys rs f) k ≡ message (bounded d) ys rs f k) × (cost (clause (bounded d) ys rs f k) ≡ 0)
           go (inl s) = A .rest k hk s
-          go (inr s) = channel-message k hk (crowding-at k (B .channel) s)
+          go (inr s) = channel-message k hk (known-at k (B .channel) s)

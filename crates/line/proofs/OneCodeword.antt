@@ -12,7 +12,6 @@ use lib.Bits.{bitAnd, bitOr, bitXor, and-le-l}
 use lib.Dec.{eqb, ltb}
 use borrow.Author.Tests.{eqb-true, ne-eqb}
 use lib.Pow.{pow-pos}
-use Rattle.laws.specs.Bits.{bit}
 use Rattle.laws.specs.working.Bits.{bitAt}
 use Rattle.laws.proofs.Xor.{bit-ind}
 use Rattle.laws.proofs.Bits.{bit-at-lt, or-at, xor-at, and-at, or-first, or-second, and-none}
@@ -22,14 +21,13 @@ use Rattle.degree.specs.Degree.{size}
 use Rattle.line.specs.declared.side.Side.{Side}
 use Rattle.line.specs.declared.side.Side.the-variants.{One, Two}
 use Rattle.line.specs.declared.packed.Line.{Line}
-use Rattle.line.specs.Cells.{cell, isErased, erasures, few, distance, filled, designedDistance, radius}
-use Rattle.line.specs.working.Packed.{packBy, Packs, PacksWord}
+use Rattle.line.specs.Cells.{cell, erasures, few, distance, filled, designedDistance, radius}
+use Rattle.line.specs.working.Packed.{Packs, PacksWord}
 use Rattle.words.specs.working.Word.{value}
-use Rattle.line.proofs.PackBits.{packBy-bit}
 use Rattle.line.proofs.Packing.{bit-of-word}
 use Rattle.line.proofs.RowLaws.{word-packs-one}
 use Rattle.line.specs.declared.bounded.Tried.{Tried}
-use Rattle.line.specs.Bounded.{Answer, Found, Failed, orBack, bounded}
+use Rattle.line.specs.Bounded.{Answer, Found, bounded}
 use Rattle.line.specs.Decoding.{choice, replaced, decode, message}
 use Rattle.line.specs.working.Tries.{Answers, failed, found, Decodes}
 use Rattle.line.specs.declared.clause.Clause.the-variants.{Both}
@@ -66,13 +64,6 @@ stays-at h k em ev ew z =
     let e = xor-at (bitXor a c) (bitAnd (bitXor a c) (bitXor o a)) k
     ∙ ap₂ bitXor (xor-at a c k) (and-at (bitXor a c) (bitXor o a) k ∙ ap₂ bitAnd (xor-at a c k) (xor-at o a k)) in
     ap (λ (x : Bool). ltb (h .tried .changed) radius || x) (stays-bit (bit-at-lt a k) (bit-at-lt c k) (bit-at-lt o k) (sym e ∙ sym (ap (λ (x : ℕ). bitAt x k) whole) ∙ z)) ∙ or-true (ltb (h .tried .changed) radius)
-
-pub crowding-at : {n : ℕ} {rs : List ℕ} {r : Line} (k : ℕ) → Packs n rs r → bitAt (value (r .erased)) k ≡ 0 → isErased (cell rs k) ≡ false
-crowding-at {rs} {r} k q z = go (isErased (cell rs k)) (sym (rw (q .erased) (packBy-bit isErased refl rs k)) ∙ z)
-  where
-    go : (t : Bool) → bit t ≡ 0 → t ≡ false
-    go true e = absurd (omega arith)
-    go false e = refl
 
 -- ---- one codeword
 

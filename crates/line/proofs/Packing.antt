@@ -25,10 +25,24 @@ use Rattle.line.specs.working.Packed.{isOne, packBy, Packs, PacksWord}
 use Rattle.line.proofs.CellLaws.{set-cells, filled-word}
 use Rattle.line.proofs.PackBits.{Small, packBy-lt, packBy-bit, packBy-set, cell-ind, cell-of, filled-first, filled-second, no-erased, ones-erased, ones-differing}
 
+-- the bits of a packed line at cell k
+pub one-at : {n : ℕ} {cs : List ℕ} {l : Line} (k : ℕ) → Packs n cs l → value (l .ones) / 2 ^ k % 2 ≡ bit (isOne (cell cs k))
+one-at {cs} k p = rw (p .ones) (packBy-bit isOne refl cs k)
+
+pub erased-at : {n : ℕ} {cs : List ℕ} {l : Line} (k : ℕ) → Packs n cs l → value (l .erased) / 2 ^ k % 2 ≡ bit (isErased (cell cs k))
+erased-at {cs} k p = rw (p .erased) (packBy-bit isErased refl cs k)
+
+-- where its erased bit is not set, a cell is known
+pub known-at : {n : ℕ} {cs : List ℕ} {l : Line} (k : ℕ) → Packs n cs l → value (l .erased) / 2 ^ k % 2 ≡ 0 → isErased (cell cs k) ≡ false
+known-at {cs} k p z = go (isErased (cell cs k)) (sym (erased-at k p) ∙ z)
+  where
+    go : (t : Bool) → bit t ≡ 0 → t ≡ false
+    go true e = absurd (omega arith)
+    go false e = refl
+
 -- cell k of a packed line
 pub cell-of-line : {n : ℕ} {cs : List ℕ} {l : Line} (k : ℕ) → Packs n cs l → value (l .ones) / 2 ^ k % 2 + 2 * (value (l .erased) / 2 ^ k % 2) ≡ cell cs k
-cell-of-line {cs} k p =
-    rw (p .ones, p .erased, packBy-bit isOne refl cs k, packBy-bit isErased refl cs k) (cell-of (p .cells .small k))
+cell-of-line k p = rw (one-at k p, erased-at k p) (cell-of (p .cells .small k))
 
 -- cell k of a packed word
 pub bit-of-word : {n : ℕ} {ws : List ℕ} {w : ℕ} (k : ℕ) → PacksWord n ws w → w / 2 ^ k % 2 ≡ cell ws k

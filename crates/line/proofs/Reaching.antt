@@ -1,7 +1,7 @@
 -- What a filling says at a cell, and the clause there.
 -- Assumes nothing.
-use mathlib.Core.Path.{_≡_, refl, sym, ap, ap₂, _∙_, subst}
-use mathlib.Core.Bool.{Bool, true, false, cond, _&&_, _||_, not, or-true, or-false, and-false}
+use mathlib.Core.Path.{_≡_, refl, sym, ap, ap₂, _∙_}
+use mathlib.Core.Bool.{Bool, true, false, cond, _&&_, _||_, not, or-true, and-false}
 use mathlib.Core.Logic.{_≢_, _⊎_, inl, inr}
 use mathlib.Core.List.{List}
 use Prim.Native.Nat.{ℕ, _+_, _≤_, _<_}
@@ -15,14 +15,13 @@ use Rattle.degree.specs.declared.Degree.{Degree}
 use Rattle.degree.specs.Degree.{size}
 use Rattle.line.specs.declared.side.Side.{Side}
 use Rattle.line.specs.declared.side.Side.the-variants.{One, Two}
-use Rattle.line.specs.declared.clause.Clause.{Clause}
 use Rattle.line.specs.declared.clause.Clause.the-variants.{Equal, Crowded, Afresh, Channel}
 use Rattle.line.specs.declared.bounded.Tried.{Tried}
 use Rattle.line.specs.declared.clause.Seen.{Seen}
 use Rattle.line.specs.working.Packed.{IsLine, PacksWord}
 use Rattle.line.specs.Cells.{cell, isErased, erasures, few, distance, filled, fillingBit, designedDistance, radius}
 use Rattle.line.specs.working.OneCell.{differs, filledCell}
-use Rattle.line.specs.Bounded.{Answer, Found, Failed, orBack, bounded, changed as changedBy}
+use Rattle.line.specs.Bounded.{Answer, bounded, changed as changedBy}
 use Rattle.line.specs.Decoding.{replaced}
 use Rattle.line.specs.Clauses.{near, reach, same, agrees, answerCell, firstFit, byReach, clause}
 use Rattle.words.specs.working.Word.{value}

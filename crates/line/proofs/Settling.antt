@@ -20,8 +20,8 @@ use Rattle.line.specs.declared.packed.Line.{Line}
 use Rattle.line.specs.declared.bounded.Tried.{Tried}
 use Rattle.line.specs.declared.clause.Base.{Base}
 use Rattle.line.specs.Cells.{cell, isErased, erasures, few, filled, designedDistance}
-use Rattle.line.specs.Bounded.{Answer, Found, Failed, bounded}
-use Rattle.line.specs.Decoding.{replaced, decoded, message}
+use Rattle.line.specs.Bounded.{Answer, Failed, bounded}
+use Rattle.line.specs.Decoding.{replaced, message}
 use Rattle.line.specs.working.Settled.{ifNear, settled}
 use Rattle.line.specs.Clauses.{reach, same, agrees, firstFit, byReach, cost, clause}
 use Rattle.line.specs.working.Packed.{Packs}

@@ -3,17 +3,15 @@
 -- checker computes over the whole table.
 -- Assumes nothing.
 use mathlib.Core.Path.{_≡_, refl, sym, ap, ap₂, _∙_, subst}
-use mathlib.Core.Bool.{Bool, true, false, cond, _&&_}
+use mathlib.Core.Bool.{Bool, true, false, cond}
 use mathlib.Core.List.{List, [], _∷_, _++_}
 use Prim.Native.Nat.{ℕ, _+_, _-_, _*_, _%_, _^_, _<_, _≤_}
-use native.Mathlib.Decide.{decLt}
 use native.Mathlib.Nat.{mul-one}
 use native.Mathlib.Numerals.{add-one}
 use native.Mathlib.Omega.{arith}
-use mathlib.Core.Logic.{dite}
 use lib.Bits.{bitXor, xor-zero-r}
 use lib.Dec.{T, eqb, eqb→eq}
-use lib.ListN.{length, getD, take, List·getD-eq-default}
+use lib.ListN.{length, getD, take}
 use lib.Pow.{pow-lt}
 use lib.Seq.{take-all}
 use Rattle.laws.specs.working.Bits.{bitAt}
@@ -23,7 +21,7 @@ use Rattle.laws.specs.working.Sums.{xorTo}
 use Rattle.laws.proofs.Bits.{bit-one}
 use Rattle.laws.proofs.DigitSums.{sum-cong, sum-ones, sum-append, sum-more, digits-length}
 use Rattle.laws.proofs.Linear.{one, sum-step, Additive, sum-map, then-adds, shift-adds, sumDigits, digits-adds, digits-power, digits-bits, digits-at, pack-step, pack-digits, digits-pack, pack-lt, pack-append, to-cong, to-both, sum-to}
-use Rattle.laws.proofs.Tests.{every, every-at, and-left, and-right}
+use Rattle.laws.proofs.Tests.{every, every-at}
 use Rattle.laws.proofs.Xor.{digit-lt, xor-one}
 use Rattle.degree.specs.declared.Degree.{Degree}
 use Rattle.degree.specs.Degree.{size, order}

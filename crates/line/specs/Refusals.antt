@@ -1,6 +1,5 @@
 -- When a call is turned down. Document 01: tests run in number order; the first that applies is returned with count 0, and
 -- every lent cell keeps its value. An entry omits a test for something it isn't given.
-use mathlib.Core.Path.{_≡_}
 use mathlib.Core.Bool.{Bool, true, false, cond, not, _&&_, _||_}
 use mathlib.Core.List.{List, [], _∷_}
 use Prim.Native.Nat.{ℕ, _^_}
@@ -12,8 +11,6 @@ use Rattle.degree.specs.declared.Named.the-variants.{Known, Unknown}
 use Rattle.degree.specs.Degree.{named}
 use Rattle.line.specs.declared.refusals.Refusal.{Refusal}
 use Rattle.line.specs.declared.refusals.Refusal.the-variants.{BadDegree, BadIterations, BadLength, BadCell}
-use Rattle.line.specs.declared.refusals.Call.{Call}
-use Rattle.line.specs.declared.refusals.Call.the-variants.{Taken, Refused}
 
 -- the numbers of document 01's table
 abbrev pub number : Refusal → ℕ

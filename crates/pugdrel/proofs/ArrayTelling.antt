@@ -1,6 +1,6 @@
 -- What the calls of an array tell, from what the entries below promise.
 -- Assumes nothing.
-use mathlib.Core.Path.{_≡_, refl, sym, ap, _∙_}
+use mathlib.Core.Path.{_≡_, refl, sym, _∙_}
 use mathlib.Core.Bool.{Bool, true, false, cond, true≢false, or-true}
 use mathlib.Core.List.{List, [], _∷_}
 use Prim.Native.Nat.{ℕ, _*_, _^_, _≤_}
@@ -8,7 +8,7 @@ use native.Mathlib.Nat.{mul-zero}
 use native.Mathlib.Omega.{arith}
 use borrow.Author.Tests.{eqb-true}
 use lib.Dec.{eqb, leb}
-use lib.ListN.{length, getD}
+use lib.ListN.{length}
 use Rattle.degree.specs.declared.Degree.{Degree}
 use Rattle.degree.specs.declared.Named.{Named}
 use Rattle.degree.specs.declared.Named.the-variants.{Known, Unknown}

@@ -1,8 +1,7 @@
 -- Words in a list of numbers: one looked up and put, and a grid of them transposed by its four quarters.
 -- Assumes nothing.
 use mathlib.Core.Path.{_≡_, refl, sym, ap, ap₂, _∙_}
-use mathlib.Core.Bool.{Bool, true}
-use mathlib.Core.List.{List, _++_}
+use mathlib.Core.List.{List}
 use mathlib.Core.Logic.{dite, _⊎_, inl, inr}
 use Prim.Native.Nat.{ℕ, _+_, _-_, _*_, _/_, _%_, _^_, _<_, _≤_}
 use native.Mathlib.Decide.{decLt, ℕ-discrete}
@@ -10,8 +9,8 @@ use native.Mathlib.Nat.{zero-div}
 use native.Mathlib.Omega.{arith}
 use borrow.Rule.Slice.PartMut.{putMid}
 use lib.ListN.{length, getD, set, take, drop, length-set, length-drop, replicate, List·getD-append, List·getD-eq-default}
-use lib.Pow.{low, high}
-use lib.Seq.{getD-set-same, getD-set-other, getD-append-add, getD-take, getD-drop, length-take-le, drop-drop}
+use lib.Pow.{low}
+use lib.Seq.{getD-set-same, getD-set-other, getD-append-add, getD-take, getD-drop, length-take-le}
 use Rattle.laws.specs.working.Bits.{bitAt}
 use Rattle.laws.proofs.Lists.{zeros-at}
 use Rattle.words.specs.working.Grid.{wordIn, wordPut, Small, Narrow, Stands, TurnedAt, BlockTurned, Exchanged, Quarters, GridTurned}

@@ -1,7 +1,7 @@
 -- What the parts of a line's work stand for: fillings, and what they say at a cell. The contracts between the functions of this
 -- crate are put in these words; nothing here has to be believed to read a contract of an entry.
 use mathlib.Core.Path.{_≡_}
-use mathlib.Core.Bool.{Bool, true, false, cond, not, _&&_, _||_}
+use mathlib.Core.Bool.{Bool, true, cond, not, _&&_, _||_}
 use mathlib.Core.List.{List}
 use Prim.Native.Nat.{ℕ, _-_, _^_, _<_}
 use lib.Dec.{eqb, ltb}

@@ -1,7 +1,6 @@
 -- `line::decoding::try_packed` meets its contract: both filled words are tried, and the choice of the two answers is the line's; with as many erasures as
 -- the designed distance or more it fails.
 -- Assumes nothing.
-use mathlib.Core.Path.{refl}
 use native.Mathlib.Omega.{arith}
 use borrow.Author.Needs.{needs}
 use Rattle.line.specs.declared.side.Side.the-variants.{One, Two}

@@ -8,7 +8,7 @@ use lib.Dec.{eqb}
 use borrow.Author.Tests.{ne-eqb}
 use borrow.Author.Needs.{needs}
 use Rattle.line.specs.Cells.{designedDistance}
-use Rattle.line.proofs.OneCodeword.{crowding-at}
+use Rattle.line.proofs.Packing.{known-at}
 use Rattle.line.proofs.messages.crowding.Statement.{statement}
 use Rattle.line.proofs.messages.crowding.Tie as tie
 
@@ -25,7 +25,7 @@ returns : tie.Need-returns
 returns c =
     λ n rs q k z.
     let e = eqb (c .before .before .args .erased + 1) designedDistance in
-    ap (λ (x : Bool). e && x) (crowding-at k q (rw (c .erased-of .ensures) at z)) ∙ and-false e
+    ap (λ (x : Bool). e && x) (known-at k q (rw (c .erased-of .ensures) at z)) ∙ and-false e
 
 returns-2 : tie.Need-returns-2
 returns-2 c = λ n rs q k z. rw (ne-eqb (c .before .before .args .erased + 1) designedDistance (c .before .if1 .left))

@@ -1,6 +1,5 @@
 -- `lines::fill` meets its contract. The loop's invariant: the word is made of bits so far. Assumes nothing.
 use Prim.Native.Nat.{_≤_, _-_}
-use mathlib.Core.Path.{_≡_, refl}
 use native.Mathlib.Omega.{arith}
 use borrow.Author.Needs.{needs}
 use Rattle.second.specs.working.Loops.{Below}

@@ -1,6 +1,6 @@
 -- `words::grid::exchange_blocks` meets its contract. The loop's invariant: the first i pairs of numbers have changed places.
 -- Assumes nothing.
-use mathlib.Core.Path.{_≡_, refl, _∙_}
+use mathlib.Core.Path.{_≡_, refl}
 use Prim.Native.Nat.{_-_, _≤_}
 use native.Mathlib.Omega.{arith}
 use lib.ListN.{length, length-set}

@@ -1,9 +1,8 @@
 -- `words::sums::chosen_sum` meets its contract. The loop's invariant: the sum is that of the first a words.
 -- Assumes nothing.
-use mathlib.Core.Path.{_≡_, refl, ap, _∙_}
-use Prim.Native.Nat.{ℕ, _-_, _≤_}
+use mathlib.Core.Path.{_≡_}
+use Prim.Native.Nat.{_-_, _≤_}
 use native.Mathlib.Omega.{arith}
-use Rattle.laws.specs.working.Bits.{bitAt}
 use Rattle.laws.specs.working.Sums.{xorTo}
 use Rattle.words.specs.working.Sums.{chosenSum}
 use Rattle.words.specs.working.Word.{value}

@@ -1,6 +1,6 @@
 -- `words::word::xor_where` meets its contract, by cases of whether the part is asked for.
 -- Assumes nothing.
-use mathlib.Core.Path.{_≡_, refl, sym, _∙_}
+use mathlib.Core.Path.{sym}
 use borrow.Author.Needs.{needs}
 use lib.Bits.{xor-zero-r}
 use Rattle.words.specs.working.Word.{value}
