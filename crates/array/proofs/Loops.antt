@@ -12,8 +12,9 @@ use lib.ListN.{length, take, drop, getD, length-drop}
 use lib.Seq.{length-take-le, getD-take, getD-drop, ext-getD}
 use Rattle.degree.specs.declared.Degree.{Degree}
 use Rattle.degree.specs.Degree.{size}
-use Rattle.words.specs.working.Grid.{wordIn, wordPut}
-use Rattle.words.proofs.GridLaws.{put-long, put-same, put-other}
+use Rattle.words.specs.working.Grid.{gridSize, wordIn, wordPut}
+use Rattle.words.specs.working.Word.{width}
+use Rattle.words.proofs.GridLaws.{put-long, put-next}
 use Rattle.line.specs.Cells.{IsWord}
 use Rattle.line.specs.working.Packed.{PacksWord}
 use Rattle.line.specs.Encoding.{messageSize, encodeLine}
@@ -22,15 +23,6 @@ use Rattle.array.specs.working.EncodedRows.{EncodedRows}
 use Rattle.array.proofs.ArrayLaws.{Even, line-at, line-cells, length-line, line-room}
 use Rattle.array.proofs.WrittenLines.{Lining, part-at, lining-start, lining-room, lining-part, lining-put, lining-all}
 use Rattle.line.proofs.Bounds.{square-le, message-le}
-
--- what holds of the first a words of a grid, and of the next one that is put, holds of one word more
-put-next : (P : ℕ → ℕ → Type 0) (g : List ℕ) (a v : ℕ) → a < 128 → length g ≡ 256 → ((b : ℕ) → b < a → P b (wordIn g 0 b)) → P a v
-    → (b : ℕ) → b < a + 1 → P b (wordIn (wordPut g 0 a v) 0 b)
-put-next P g a v h l first next b q = pick (ℕ-discrete b a)
-  where
-    pick : Dec (b ≡ a) → P b (wordIn (wordPut g 0 a v) 0 b)
-    pick (yes z) = rw (z, put-same g 0 a v h (omega arith)) next
-    pick (no z) = rw (put-other g 0 a v 0 b h (omega arith) (λ e. z) (inl refl)) (first b (omega (arith, z)))
 
 -- ---- the message rows, a row a turn
 
@@ -64,7 +56,7 @@ module _ {d : Degree} {k : ℕ} {m ws₀ ws : List ℕ} {a at : ℕ} (w : Encodi
     encoding-part = part-at at k m (w .place)
 
     -- there is a word for the row
-    pub encoding-word : length ws₀ ≡ 256 → (a < 128) × (0 + 256 ≤ length ws)
+    pub encoding-word : length ws₀ ≡ gridSize → (a < width) × (0 + gridSize ≤ length ws)
     encoding-word l = (omega (arith, message-le d (w .count)), omega (arith, w .long))
 
     -- the row lies within the message, and its end fits
@@ -76,7 +68,7 @@ module _ {d : Degree} {k : ℕ} {m ws₀ ws : List ℕ} {a at : ℕ} (w : Encodi
     pub encoding-cells : IsWord (messageSize d * messageSize d) m → IsWord (messageSize d) (take (at + k - at) (drop at m))
     encoding-cells M = subst (λ (x : ℕ). IsWord x (take (at + k - at) (drop at m))) (w .count) (rw encoding-part (line-cells k k a (whole M) h))
 
-    pub encoding-next : length ws₀ ≡ 256 → (word : ℕ) → PacksWord (size d) (encodeLine d (take (at + k - at) (drop at m))) word
+    pub encoding-next : length ws₀ ≡ gridSize → (word : ℕ) → PacksWord (size d) (encodeLine d (take (at + k - at) (drop at m))) word
         → Encoding d k m ws₀ (wordPut ws 0 a word) (a + 1) (at + k)
     encoding-next l word e = record {
       count = w .count;

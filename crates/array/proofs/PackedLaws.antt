@@ -12,7 +12,7 @@ use native.Mathlib.Omega.{arith}
 use native.Mathlib.Decide.{decLt, ℕ-discrete}
 use borrow.Rule.Slice.PartMut.{putMid}
 use lib.ListN.{length, take, drop, getD, length-append, length-drop, replicate, length-replicate, drop-of-length-le}
-use lib.Pow.{pow-mono, shr-lt}
+use lib.Pow.{pow-mono}
 use lib.Seq.{length-take-le, drop-drop, drop-at, take-at, take-take, take-add, drop-append-le, take-append-le}
 use Rattle.degree.specs.declared.Degree.{Degree}
 use Rattle.degree.specs.Degree.{size}
@@ -24,8 +24,8 @@ use Rattle.line.specs.declared.packed.Line.{Line}
 use Rattle.words.specs.working.Word.{value, width}
 use Rattle.line.proofs.PackBits.{packBy-lt}
 use Rattle.line.proofs.RowLaws.{size-room, size-eights}
-use Rattle.words.specs.working.Grid.{wordIn, wordPut, Small, Narrow, GridTurned}
-use Rattle.words.proofs.GridLaws.{put-long, put-same, put-other, put-small, word-small, word-stands, zeros-word, narrow-words}
+use Rattle.words.specs.working.Grid.{gridSize, wordIn, wordPut, Small, Within, GridTurned}
+use Rattle.words.proofs.GridLaws.{put-long, put-same, put-other, put-small, word-small, word-stands, zeros-word}
 use Rattle.array.specs.Arrays.{line, lines}
 use Rattle.array.specs.working.PackedRows.{withLine, RowWords, Held, LineIn, LinePut, RowsTurned}
 use Rattle.array.specs.working.Steps.{IsArray}
@@ -157,41 +157,39 @@ words-put p n i m m′ before after w e others same k h =
     dite (ℕ-discrete k i) (λ q. rw q e) (λ q. others k h q ∙ w k h ∙ ap (packBy p) (sym (same k q)))
 
 -- the words of line i pack row i
-pub held-line : (rows : List ℕ) (i : ℕ) (l : Line) → value (l .ones) ≡ wordIn rows 0 i → value (l .erased) ≡ wordIn rows 256 i → LineIn rows i l
+pub held-line : (rows : List ℕ) (i : ℕ) (l : Line) → value (l .ones) ≡ wordIn rows 0 i → value (l .erased) ≡ wordIn rows gridSize i → LineIn rows i l
 held-line rows i l e f n m k h =
     let q : i < width = omega (arith, k .room) in
     record { room = k .room; cells = line-cells n n i (k .array) h; ones = e ∙ k .ones i q; erased = f ∙ k .erased i q }
 
--- a packed line fits two numbers
-pack-fits : {n : ℕ} {v : ℕ} (p : ℕ → Bool) (cs : List ℕ) → length cs ≡ n → n ≤ width → v ≡ packBy p cs → v / 2 ^ 64 < 2 ^ 64
-pack-fits {n} p cs l h e =
-    let few : length cs ≤ 64 + 64 = omega arith in
-    shr-lt 64 64 (rw e (lt-of-lt-of-le (packBy-lt p cs) (pow-mono few)))
+-- a packed line fits a word
+pack-fits : {n : ℕ} {v : ℕ} (p : ℕ → Bool) (cs : List ℕ) → length cs ≡ n → n ≤ width → v ≡ packBy p cs → v < 2 ^ width
+pack-fits p cs l few e = rw e (lt-of-lt-of-le (packBy-lt p cs) (pow-mono {i = length cs} {j = width} (omega arith)))
 
 -- the words of line i made those of l
-pub held-put : (rows : List ℕ) (i : ℕ) (l : Line) → i < width → LinePut rows i l (wordPut (wordPut rows 0 i (value (l .ones))) 256 i (value (l .erased)))
+pub held-put : (rows : List ℕ) (i : ℕ) (l : Line) → i < width → LinePut rows i l (wordPut (wordPut rows 0 i (value (l .ones))) gridSize i (value (l .erased)))
 held-put rows i l few n m y k h p = record {
   room = k .room;
   array = with-line-cells n i m y (k .array) h (p .cells);
-  long = put-long one 256 i (value (l .erased)) ∙ put-long rows 0 i (value (l .ones)) ∙ k .long;
-  small = put-small one 256 i (value (l .erased)) (put-small rows 0 i (value (l .ones)) (k .small) (pack-fits isOne y (p .cells .long) (k .room) (p .ones))) (pack-fits isErased y (p .cells .long) (k .room) (p .erased));
+  long = put-long one gridSize i (value (l .erased)) ∙ put-long rows 0 i (value (l .ones)) ∙ k .long;
+  small = put-small one gridSize i (value (l .erased)) (put-small rows 0 i (value (l .ones)) (k .small) (pack-fits isOne y (p .cells .long) (k .room) (p .ones))) (pack-fits isErased y (p .cells .long) (k .room) (p .erased));
   ones = words-put isOne n i m (withLine n m i y) (λ j. wordIn rows 0 j) (λ j. wordIn both 0 j) (k .ones)
       (apart i few ∙ put-same rows 0 i (value (l .ones)) few (omega (arith, k .long)) ∙ p .ones ∙ ap (packBy isOne) here)
       (λ j q ne. apart j q ∙ put-other rows 0 i (value (l .ones)) 0 j few q (λ e. ne) (inl refl)) elsewhere;
-  erased = words-put isErased n i m (withLine n m i y) (λ j. wordIn rows 256 j) (λ j. wordIn both 256 j) (k .erased)
-      (put-same one 256 i (value (l .erased)) few (omega (arith, k .long, put-long rows 0 i (value (l .ones)))) ∙ p .erased ∙ ap (packBy isErased) here)
-      (λ j q ne. put-other one 256 i (value (l .erased)) 256 j few q (λ e. ne) (inl refl) ∙ put-other rows 0 i (value (l .ones)) 256 j few q (λ e. absurd (omega arith)) (inr (inr (omega arith)))) elsewhere;
+  erased = words-put isErased n i m (withLine n m i y) (λ j. wordIn rows gridSize j) (λ j. wordIn both gridSize j) (k .erased)
+      (put-same one gridSize i (value (l .erased)) few (omega (arith, k .long, put-long rows 0 i (value (l .ones)))) ∙ p .erased ∙ ap (packBy isErased) here)
+      (λ j q ne. put-other one gridSize i (value (l .erased)) gridSize j few q (λ e. ne) (inl refl) ∙ put-other rows 0 i (value (l .ones)) gridSize j few q (λ e. absurd (omega arith)) (inr (inr (omega arith)))) elsewhere;
 }
   where
     one : List ℕ
     one = wordPut rows 0 i (value (l .ones))
 
     both : List ℕ
-    both = wordPut one 256 i (value (l .erased))
+    both = wordPut one gridSize i (value (l .erased))
 
     -- the second grid lies apart from the first
     apart : (j : ℕ) → j < width → wordIn both 0 j ≡ wordIn one 0 j
-    apart j q = put-other one 256 i (value (l .erased)) 0 j few q (λ e. absurd (omega arith)) (inr (inl (omega arith)))
+    apart j q = put-other one gridSize i (value (l .erased)) 0 j few q (λ e. absurd (omega arith)) (inr (inl (omega arith)))
 
     room : i * n + n ≤ length m
     room = row-within n i m (k .array .long) h
@@ -209,35 +207,37 @@ unfolding packBy
 packBy-none p z [] h = refl
 packBy-none p z (x ∷ xs) h = ap₂ (λ (w : ℕ) (b : Bool). w * 2 + bit b) (packBy-none p z xs (λ i. h (suc i))) (ap p (h 0) ∙ z)
 
--- the grid of an array's lines is narrow where n is at most 64
-held-narrow : (p : ℕ → Bool) → p 0 ≡ false → (n base : ℕ) (m rows : List ℕ) → length m ≡ n * n → n ≤ 64 → Small rows → RowWords p n m (λ i. wordIn rows base i) → Narrow base rows
-held-narrow p z n base m rows l few small w =
-    narrow-words rows base small
-    (λ i h. rw (w i (omega arith)) (lt-of-lt-of-le (packBy-lt p (line n m i)) (pow-mono {i = length (line n m i)} {j = 64} (omega (arith, length-line-le n m i)))))
-    (λ i h q. w i q ∙ packBy-none p z (line n m i) (λ j. line-past n m l i j (omega arith)))
+-- the words of an array's lines have no bits past its n by n cells
+held-within : (p : ℕ → Bool) → p 0 ≡ false → (n base : ℕ) (m rows : List ℕ) → length m ≡ n * n → RowWords p n m (λ i. wordIn rows base i) → Within n base rows
+held-within p z n base m rows l w = record {
+  short = λ i h. rw (w i h) (lt-of-lt-of-le (packBy-lt p (line n m i)) (pow-mono {i = length (line n m i)} {j = n} (length-line-le n m i)));
+  none = λ i h q. w i q ∙ packBy-none p z (line n m i) (λ j. line-past n m l i j h);
+}
 
 -- both grids transposed hold the transposed array
-pub held-turned : (n : ℕ) (rows half after : List ℕ) (narrow : Bool) → (narrow ≡ true → n ≤ 64)
-    → (Small rows → (narrow ≡ true → Narrow 0 rows) → GridTurned 0 rows half) → (Small half → (narrow ≡ true → Narrow 256 half) → GridTurned 256 half after)
+pub held-turned : (n : ℕ) (rows half after : List ℕ)
+    → (Small rows → Within n 0 rows → GridTurned 0 rows half) → (Small half → Within n gridSize half → GridTurned gridSize half after)
     → length after ≡ length rows → RowsTurned n rows after
-held-turned n rows half after narrow few one two long m k = record {
+held-turned n rows half after one two long m k = record {
   room = k .room;
   array = transpose-cells n n (k .array);
   long = long ∙ k .long;
   small = second .small;
   ones = words-turned isOne n m (λ i. wordIn rows 0 i) (λ i. wordIn after 0 i) refl (k .room) (k .array .long) (k .ones)
       (λ i h. word-small after 0 i (second .small))
-      (λ i j h q. rw (word-stands 256 256 0 i half after (second .stays) h (inl (omega arith))) (first .bits i j h q));
-  erased = words-turned isErased n m (λ i. wordIn rows 256 i) (λ i. wordIn after 256 i) refl (k .room) (k .array .long) (k .erased)
-      (λ i h. word-small after 256 i (second .small))
-      (λ i j h q. rw (← word-stands 0 256 256 j rows half (first .stays) q (inr (omega arith))) (second .bits i j h q));
+      (λ i j h q. rw (word-stands gridSize gridSize 0 i half after (second .stays) h (inl (omega arith))) (first .bits i j h q));
+  erased = words-turned isErased n m (λ i. wordIn rows gridSize i) (λ i. wordIn after gridSize i) refl (k .room) (k .array .long) (k .erased)
+      (λ i h. word-small after gridSize i (second .small))
+      (λ i j h q. rw (← word-stands 0 gridSize gridSize j rows half (first .stays) q (inr (omega arith))) (second .bits i j h q));
 }
   where
     first : GridTurned 0 rows half
-    first = one (k .small) (λ e. held-narrow isOne refl n 0 m rows (k .array .long) (few e) (k .small) (k .ones))
+    first = one (k .small) (held-within isOne refl n 0 m rows (k .array .long) (k .ones))
 
-    second : GridTurned 256 half after
-    second = two (first .small) (λ e i h q. first .stays (256 + i) (inr (omega arith)) ∙ held-narrow isErased refl n 256 m rows (k .array .long) (few e) (k .small) (k .erased) i h q)
+    second : GridTurned gridSize half after
+    second =
+        two (first .small) (held-within isErased refl n gridSize m half (k .array .long)
+        (λ i h. word-stands 0 gridSize gridSize i rows half (first .stays) h (inr (omega arith)) ∙ k .erased i h))
 
 -- ---- the rows packed, a row a turn
 
@@ -246,14 +246,14 @@ abbrev blank : ℕ → List ℕ
 blank n = replicate (n * n) 0
 
 -- words that are 0 hold it
-blank-held : (n : ℕ) → n ≤ width → Held n (blank n) (replicate 512 0)
+blank-held : (n : ℕ) → n ≤ width → Held n (blank n) (replicate (2 * gridSize) 0)
 blank-held n few = record {
   room = few;
   array = record { long = length-replicate {A = ℕ} (n * n) 0; small = λ i. rw (zeros-at (n * n) i) (omega arith) };
-  long = length-replicate {A = ℕ} 512 0;
-  small = λ i. rw (zeros-at 512 i) (omega arith);
-  ones = λ i h. zeros-word 512 0 i ∙ sym (none isOne refl i);
-  erased = λ i h. zeros-word 512 256 i ∙ sym (none isErased refl i);
+  long = length-replicate {A = ℕ} (2 * gridSize) 0;
+  small = λ i. rw (zeros-at (2 * gridSize) i) (omega arith);
+  ones = λ i h. zeros-word (2 * gridSize) 0 i ∙ sym (none isOne refl i);
+  erased = λ i h. zeros-word (2 * gridSize) gridSize i ∙ sym (none isErased refl i);
 }
   where
     none : (p : ℕ → Bool) → p 0 ≡ false → (i : ℕ) → packBy p (line n (blank n) i) ≡ 0
@@ -265,7 +265,7 @@ pub record Packing (n : ℕ) (m rows : List ℕ) (i at : ℕ) : Type 0 where
   pub place : at ≡ i * n
   pub held : Held n (soFar n (line n m) (blank n) i) rows
 
-pub packing-start : (d : Degree) {n : ℕ} (m : List ℕ) {rows : List ℕ} → n ≡ size d → rows ≡ replicate 512 0 → Packing n m rows 0 0
+pub packing-start : (d : Degree) {n : ℕ} (m : List ℕ) {rows : List ℕ} → n ≡ size d → rows ≡ replicate (2 * gridSize) 0 → Packing n m rows 0 0
 packing-start d {n} m e z = record {
   low = omega arith;
   place = sym (zero-mul n);

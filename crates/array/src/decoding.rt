@@ -1,5 +1,6 @@
 // The decoding of an array that was taken: in one way, from its start to its report.
 use crate::iterations::run;
+use crate::packing::PackedRows;
 use crate::packing::pack_rows;
 use crate::packing::transpose_rows;
 use crate::report::Report;
@@ -7,6 +8,7 @@ use crate::report::report_of;
 use degree::Degree;
 use line::tables::LineTables;
 use words::copying::copy_cells;
+use words::word::grid::GRID;
 ghost use mathlib.Core.Path.{_≡_};
 ghost use Prim.Native.Nat.{_*_, _≤_};
 ghost use lib.ListN.{length};
@@ -29,7 +31,7 @@ pub fn decode_taken(
     ensures { λ r. ⌜ DecodingDone d iterations (now (received .entry)) (fillings (now (filling .entry))) (now (cells .exit)) r ⌝ }
 {
     copy_cells(received, cells);
-    let mut row_channel = [0u64; 512];
+    let mut row_channel: PackedRows = [0; 2 * GRID];
     pack_rows(d, received, &mut row_channel);
     let mut column_channel = row_channel;
     transpose_rows(d, &mut column_channel);

@@ -8,9 +8,11 @@ use line::encoding::unit_table;
 use line::packed::Line;
 use line::refusals::Call;
 use line::refusals::number_of;
-use words::grid::put_word;
-use words::pairs::spread_pair;
-use words::sums::chosen_sum;
+use words::word::grid::GRID;
+use words::word::grid::Grid;
+use words::word::grid::put_word;
+use words::word::pairs::spread_pair;
+use words::word::sums::chosen_sum;
 use words::word::zero_word;
 ghost use mathlib.Core.Path.{_≡_};
 ghost use Prim.Native.Nat.{_*_, _%_, _≤_};
@@ -20,7 +22,9 @@ ghost use Rattle.laws.specs.Digits.{digits};
 ghost use Rattle.line.specs.Cells.{IsWord};
 ghost use Rattle.line.specs.Encoding.{messageSize};
 ghost use Rattle.line.specs.working.Units.{Units};
+ghost use Rattle.words.specs.working.Grid.{gridSize};
 ghost use Rattle.words.specs.working.Sums.{chosenSum};
+ghost use Rattle.words.specs.working.Word.{width};
 ghost use Rattle.array.specs.Arrays.{lines};
 ghost use Rattle.array.specs.Encoding.{encodeArray};
 ghost use Rattle.array.specs.working.EncodedRows.{EncodedRows};
@@ -28,7 +32,7 @@ ghost use Rattle.array.specs.Entries.{Encoded};
 
 // The words of the message rows, in a grid.
 fn encode_rows(d: Degree, units: &UnitTable, message: &[u8], words: &mut [u64])
-    requires { ⌜ Units d (now units) × IsWord (messageSize d * messageSize d) (now message) × (length (now words) ≡ 256) ⌝ }
+    requires { ⌜ Units d (now units) × IsWord (messageSize d * messageSize d) (now message) × (length (now words) ≡ gridSize) ⌝ }
     ensures { λ _. ⌜ EncodedRows d (now (message .entry)) (now (words .exit)) ⌝ }
 {
     let k = Line::message_cells(d);
@@ -44,8 +48,8 @@ fn encode_rows(d: Degree, units: &UnitTable, message: &[u8], words: &mut [u64])
 }
 
 // All rows of the array: row i is the sum of the k words whose unit has bit i. No cell of it is unsure.
-fn write_rows(n: usize, k: usize, units: &UnitTable, words: &[u64], cells: &mut [u8])
-    requires { ⌜ (k ≤ 128) × (length (now words) ≡ 256) × (n ≤ 128) × (n % 8 ≡ 0) × (length (now cells) ≡ n * n) ⌝ }
+fn write_rows(n: usize, k: usize, units: &UnitTable, words: &Grid, cells: &mut [u8])
+    requires { ⌜ (k ≤ width) × (n ≤ width) × (n % 8 ≡ 0) × (length (now cells) ≡ n * n) ⌝ }
     ensures { λ _. ⌜ now (cells .exit) ≡ lines (λ i. digits n (chosenSum (now (units .entry)) (now (words .entry)) k i)) n ⌝ }
 {
     let mut i = 0;
@@ -65,7 +69,7 @@ fn encode_array(d: Degree, message: &[u8], cells: &mut [u8])
     ensures { λ _. ⌜ now (cells .exit) ≡ encodeArray d (now (message .entry)) ⌝ }
 {
     let units = unit_table(d);
-    let mut words = [0u64; 256];
+    let mut words: Grid = [0; GRID];
     encode_rows(d, &units, message, &mut words);
     let n = size_of(d);
     let k = Line::message_cells(d);

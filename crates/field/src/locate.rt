@@ -4,13 +4,14 @@ use crate::syndrome::syndrome_of;
 use crate::tables::FieldTables;
 use crate::tables::order_in;
 use degree::Degree;
-use words::word::of_numbers;
+use words::word::LentWord;
+use words::word::lent_word;
 ghost use mathlib.Core.Path.{_≡_};
 ghost use mathlib.Core.Logic.{_≢_};
-ghost use Prim.Native.Nat.{ℕ, _+_, _*_, _^_, _<_};
+ghost use Prim.Native.Nat.{ℕ, _+_, _*_, _<_};
 ghost use lib.Dec.{eqb};
 ghost use Rattle.laws.specs.Digits.{digits};
-ghost use Rattle.words.specs.working.Word.{width};
+ghost use Rattle.words.specs.working.Word.{width, lentValue};
 ghost use Rattle.degree.specs.Degree.{size, order};
 ghost use Rattle.field.specs.working.Positions.{located, atMostOne, usable, Below};
 ghost use Rattle.field.specs.working.Fitting.{Second};
@@ -142,13 +143,12 @@ fn place_of(d: Degree, s1: u16, s3: u16, parity: u16, tables: &FieldTables) -> u
 }
 
 // The entry of a word's error positions, in the lowest 16 binary digits, and above them the parity. Both are 0 exactly where the word
-// needs no mending. The word is handed over as its two numbers, and nowhere else: a struct is stored by the caller and read back here,
-// and that took a tenth of a decode.
-pub fn word_place(d: Degree, low: u64, high: u64, tables: &FieldTables) -> u32
+// needs no mending. The word is lent: handed over by value it is copied first, and that took a tenth of a decode.
+pub fn word_place(d: Degree, lent: &LentWord, tables: &FieldTables) -> u32
     requires { ⌜ Tables d (now tables) ⌝ }
-    ensures { λ r. ⌜ IsPlace d (digits width (high * 2 ^ 64 + low)) r ⌝ }
+    ensures { λ r. ⌜ IsPlace d (digits width (lentValue (now (lent .entry)))) r ⌝ }
 {
-    let s = syndrome_of(d, of_numbers(low, high), tables);
+    let s = syndrome_of(d, lent_word(lent), tables);
     let place = place_of(d, s.s1, s.s3, s.parity, tables);
     place as u32 + 65536 * (s.parity as u32)
 }

@@ -1,8 +1,8 @@
 // The check sums of a packed word.
 use crate::tables::FieldTables;
 use degree::Degree;
-use words::sums::byte_sum;
 use words::word::Word;
+use words::word::sums::byte_sum;
 ghost use Rattle.laws.specs.Digits.{digits};
 ghost use Rattle.field.specs.working.Checks.{IsSyndrome};
 ghost use Rattle.field.specs.working.Tables.{Tables};

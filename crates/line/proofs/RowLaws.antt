@@ -61,10 +61,6 @@ word-place {d} p q =
       fits = q .fits ∙ rw front;
     }
 
--- a number from its lowest 64 digits and those above
-pub from-halves : {v low high : ℕ} → low ≡ v % 2 ^ 64 → high ≡ v / 2 ^ 64 → high * 2 ^ 64 + low ≡ v
-from-halves e f = omega arith
-
 -- a packed word says what its cells are
 pub word-packs-one : {n : ℕ} {cs ds : List ℕ} {v w : ℕ} → v ≡ w → PacksWord n cs v → PacksWord n ds w → cs ≡ ds
 word-packs-one {cs} {ds} e p q =

@@ -1,6 +1,6 @@
 -- Encoding on packed words, by a table of the encoded units: entry a is the encoded line, as a number, of the message whose
 -- one 1 is cell a. A message is encoded as the sum of the entries at its ones. A table of units is known by a test, which the
--- checker computes over the whole table.
+-- checker computes over all the check cells that it is made from.
 -- Assumes nothing.
 use mathlib.Core.Path.{_≡_, refl, sym, ap, ap₂, _∙_, subst}
 use mathlib.Core.Bool.{Bool, true, false, cond}
@@ -25,13 +25,14 @@ use Rattle.laws.proofs.Tests.{every, every-at}
 use Rattle.laws.proofs.Xor.{digit-lt, xor-one}
 use Rattle.degree.specs.declared.Degree.{Degree}
 use Rattle.degree.specs.Degree.{size, order}
-use Rattle.words.specs.working.Grid.{wordIn}
+use Rattle.words.specs.working.Grid.{gridSize, wordIn, wordPut}
+use Rattle.words.proofs.GridLaws.{put-long, put-next}
 use Rattle.line.specs.Cells.{IsWord}
 use Rattle.line.specs.working.Packed.{isOne, packBy, PacksWord}
 use Rattle.line.specs.Encoding.{checkSize, messageSize, sums, checksFor, checkCells, encodeLine}
-use Rattle.line.specs.working.Units.{Units}
+use Rattle.line.specs.working.Units.{unitOf, UnitWords, Units}
 use Rattle.line.proofs.CellLaws.{Bits}
-use Rattle.line.proofs.Bounds.{size-le}
+use Rattle.line.proofs.Bounds.{size-le, message-le}
 use Rattle.line.proofs.LineEncoding.{inverse, length-checks, length-body, line-codeword, summed}
 
 -- the number of a word of cells is the word that packs them
@@ -49,9 +50,9 @@ module _ (d : Degree) where
       let c = digits (checkSize d) (checksFor d (sums d (checkSize d + a))) in
       (ones c + 1) % 2 * 2 ^ order d + (2 ^ a * 2 ^ checkSize d + pack c)
 
-  -- the first k entries are the units
+  -- the units are made from these check cells
   unfoldable pub units? : List ℕ → Bool
-  units? t = every (λ a. eqb (wordIn t 0 a) (unitWord a)) (messageSize d)
+  units? entries = every (λ a. eqb (unitOf d a (getD entries a 0)) (unitWord a)) (messageSize d)
 
   pack-one : (b : ℕ) → b < 2 → pack (b ∷ []) ≡ b
   unfolding sumOver
@@ -83,9 +84,33 @@ module _ (d : Degree) where
       sym (encode-word m (digits-length (messageSize d) (2 ^ a)) ∙ rw (parity, pack-digits (messageSize d) (2 ^ a) (pow-lt h), s))
 
   -- what a passed test says
-  pub units-rule : (t : List ℕ) → T (units? t) → length t ≡ 256 → Units d t
+  pub units-rule : (entries : List ℕ) {t : List ℕ} → T (units? entries) → length entries ≡ messageSize d → UnitWords d entries t → Units d t
   unfolding units?
-  units-rule t h l = record { long = l; at = λ a q. eqb→eq _ _ (every-at (λ a. eqb (wordIn t 0 a) (unitWord a)) (messageSize d) h q) ∙ unit-word a q }
+  units-rule entries h l w = record {
+    long = w .long;
+    at = λ a q. w .at a (rw l q) ∙ eqb→eq _ _ (every-at (λ a. eqb (unitOf d a (getD entries a 0)) (unitWord a)) (messageSize d) h q) ∙ unit-word a q;
+  }
+
+  -- ---- a table of units made, a unit a turn
+
+  pub record Making (entries t : List ℕ) (a : ℕ) : Type 0 where
+    pub low : a ≤ length entries
+    pub long : length t ≡ gridSize
+    pub made : (b : ℕ) → b < a → wordIn t 0 b ≡ unitOf d b (getD entries b 0)
+
+  pub making-start : (entries t : List ℕ) → length t ≡ gridSize → Making entries t 0
+  making-start entries t l = record { low = omega arith; long = l; made = λ b h. absurd (omega arith) }
+
+  pub making-next : {entries t : List ℕ} {a : ℕ} → Making entries t a → a < length entries → length entries ≡ messageSize d
+      → (v : ℕ) → v ≡ unitOf d a (getD entries a 0) → Making entries (wordPut t 0 a v) (a + 1)
+  making-next {entries} {t} {a} w h l v e = record {
+    low = omega arith;
+    long = put-long t 0 a v ∙ w .long;
+    made = put-next (λ b y. y ≡ unitOf d b (getD entries b 0)) t a v (omega (arith, message-le d l)) (w .long) (w .made) e;
+  }
+
+  pub making-end : {entries t : List ℕ} {a : ℕ} → Making entries t a → length entries ≤ a → UnitWords d entries t
+  making-end w h = record { long = w .long; at = λ b q. w .made b (omega arith) }
 
   -- ---- an encoded line is linear in its message
 

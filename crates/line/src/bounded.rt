@@ -5,9 +5,8 @@ use crate::tables::last_cell;
 use degree::Degree;
 use field::locate::word_place;
 use words::word::Word;
-use words::word::high_of;
-use words::word::low_of;
 use words::word::single;
+use words::word::to_lend;
 use words::word::xor_words;
 ghost use mathlib.Core.Path.{_≡_};
 ghost use mathlib.Core.List.{List};
@@ -84,7 +83,8 @@ pub fn bounded_word(d: Degree, word: Word, tables: &LineTables) -> Tried
     requires { ⌜ TablesOf d (now tables) ⌝ }
     ensures { λ r. ⌜ ((ws : List ℕ) → PacksWord (size d) ws (value word) → Decodes d ws r) ⌝ }
 {
-    let place = word_place(d, low_of(word), high_of(word), tables);
+    let lent = to_lend(word);
+    let place = word_place(d, &lent, tables);
     let last = last_cell(d, tables);
     mended(d, word, place, last)
 }
@@ -96,7 +96,8 @@ pub fn counted(d: Degree, word: Word, count: u64, tables: &LineTables) -> Tally
     requires { ⌜ (count < 1000) × TablesOf d (now tables) ⌝ }
     ensures { λ r. ⌜ (r .count ≡ count + 1) × ((ws : List ℕ) → PacksWord (size d) ws (value word) → Decodes d ws (r .tried)) ⌝ }
 {
-    let place = word_place(d, low_of(word), high_of(word), tables);
+    let lent = to_lend(word);
+    let place = word_place(d, &lent, tables);
     let last = last_cell(d, tables);
     let tried = mended(d, word, place, last);
     let next = count + 1;

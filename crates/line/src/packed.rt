@@ -1,8 +1,6 @@
 // A line packed in words. Only this module knows how.
 use crate::side::Side;
 use degree::Degree;
-use words::pairs::gather_pair;
-use words::pairs::spread_pair;
 use words::word::Word;
 use words::word::and_words;
 use words::word::bit_at;
@@ -10,6 +8,8 @@ use words::word::count_bits;
 use words::word::is_zero;
 use words::word::not_word;
 use words::word::or_words;
+use words::word::pairs::gather_pair;
+use words::word::pairs::spread_pair;
 use words::word::put_bit;
 use words::word::same_word;
 use words::word::without;

@@ -9,12 +9,13 @@ use native.Mathlib.Nat.{zero-div}
 use native.Mathlib.Omega.{arith}
 use borrow.Rule.Slice.PartMut.{putMid}
 use lib.ListN.{length, getD, set, take, drop, length-set, length-drop, replicate, List·getD-append, List·getD-eq-default}
-use lib.Pow.{low}
+use lib.Pow.{low, pow-mono, shr-lt}
 use lib.Seq.{getD-set-same, getD-set-other, getD-append-add, getD-take, getD-drop, length-take-le}
 use Rattle.laws.specs.working.Bits.{bitAt}
 use Rattle.laws.proofs.Lists.{zeros-at}
-use Rattle.words.specs.working.Grid.{wordIn, wordPut, Small, Narrow, Stands, TurnedAt, BlockTurned, Exchanged, Quarters, GridTurned}
+use Rattle.words.specs.working.Grid.{gridSize, wordIn, wordPut, Small, Within, Narrow, Stands, TurnedAt, BlockTurned, Exchanged, Quarters, GridTurned}
 use Rattle.words.specs.working.Network.{Turned}
+use Rattle.words.specs.working.Word.{width}
 use Rattle.words.proofs.Halves.{halves-lt, bit-low, bit-high}
 
 -- ---- one word
@@ -282,12 +283,23 @@ module _ (base : ℕ) (a b : List ℕ) (fits : Small a) (q : Quarters base a b) 
   pub grid-turned : GridTurned base a b
   grid-turned = record { small = all-small; bits = turned-bits; stays = q .stays }
 
+-- ---- the words of a grid, put one a turn
+
+-- what holds of the first a words of a grid, and of the next one that is put, holds of one word more
+pub put-next : (P : ℕ → ℕ → Type 0) (g : List ℕ) (a v : ℕ) → a < width → length g ≡ gridSize → ((b : ℕ) → b < a → P b (wordIn g 0 b)) → P a v
+    → (b : ℕ) → b < a + 1 → P b (wordIn (wordPut g 0 a v) 0 b)
+put-next P g a v h l first next b q = pick (ℕ-discrete b a)
+  where
+    pick : Dec (b ≡ a) → P b (wordIn (wordPut g 0 a v) 0 b)
+    pick (yes z) = rw (z, put-same g 0 a v h (omega arith)) next
+    pick (no z) = rw (put-other g 0 a v 0 b h (omega arith) (λ e. z) (inl refl)) (first b (omega (arith, z)))
+
 -- ---- words that are small, and words that stand
 
-pub put-small : (g : List ℕ) (base i v : ℕ) → Small g → v / 2 ^ 64 < 2 ^ 64 → Small (wordPut g base i v)
+pub put-small : (g : List ℕ) (base i v : ℕ) → Small g → v < 2 ^ width → Small (wordPut g base i v)
 unfolding wordPut
 put-small g base i v s h j =
-    set-small (set g (base + i) (v % 2 ^ 64)) (base + 128 + i) (v / 2 ^ 64) (λ k. set-small g (base + i) (v % 2 ^ 64) s (low-fits v) k) h j
+    set-small (set g (base + i) (v % 2 ^ 64)) (base + 128 + i) (v / 2 ^ 64) (λ k. set-small g (base + i) (v % 2 ^ 64) s (low-fits v) k) (shr-lt 64 64 h) j
   where
     low-fits : (v : ℕ) → v % 2 ^ 64 < 2 ^ 64
     low-fits v = omega arith
@@ -322,10 +334,8 @@ word-stands from k base i a b s h apart = ap₂ (λ (x y : ℕ). x * 2 ^ 64 + y)
     near (inr p) = inr (omega arith)
 
 -- at most 64 words of at most 64 bits
-pub narrow-words : (g : List ℕ) (base : ℕ) → Small g → ((i : ℕ) → i < 64 → wordIn g base i < 2 ^ 64) → ((i : ℕ) → 64 ≤ i → i < 128 → wordIn g base i ≡ 0) → Narrow base g
+pub narrow-words : (n base : ℕ) (g : List ℕ) → n ≤ 64 → Within n base g → Narrow base g
 unfolding wordIn
-narrow-words g base s low none i h l =
-    dite (decLt i 128) (λ q. omega (arith, none i h q))
-    (λ q. dite (decLt i 192)
-    (λ r. let n : base + i ≡ base + 128 + (i - 128) = omega arith in rw n (omega (arith, low (i - 128) (omega arith))))
-    (λ r. let n : base + i ≡ base + 128 + (i - 128) = omega arith in rw n (omega (arith, none (i - 128) (omega arith) (omega arith)))))
+narrow-words n base g few w i h l =
+    dite (decLt i 128) (λ q. omega (arith, w .none i (omega arith) q))
+    (λ q. let e : base + i ≡ base + 128 + (i - 128) = omega arith in rw e (omega (arith, w .short (i - 128) (omega arith), pow-mono {i = n} {j = 64} few)))

@@ -1,5 +1,9 @@
-// A packed word: bit i of it is cell i. Only this module knows that the machine holds it in two numbers of 64 bits, the low one
-// first. A word of at most 64 cells leaves the high one 0.
+// A packed word: bit i of it is cell i. Only this module, with the three below it, knows that the machine holds a word in two numbers
+// of 64 bits, the low one first: `low_of` and `high_of` can't be named elsewhere. A word of at most 64 cells leaves the high one 0.
+pub mod pairs; // the two lowest bits of bytes, gathered in two words and spread again
+pub mod grid; // 128 words in an array of numbers, and their transpose
+pub mod sums; // sums of words and of table entries, by exclusive or
+
 ghost use mathlib.Core.Path.{_≡_};
 ghost use mathlib.Core.Bool.{cond};
 ghost use mathlib.Core.Logic.{_≢_};
@@ -7,11 +11,11 @@ ghost use Prim.Native.Nat.{_+_, _-_, _*_, _<_, _≤_, _/_, _%_, _^_};
 ghost use lib.Bits.{bitAnd, bitOr, bitXor};
 ghost use lib.Count.{ones, trailingZeros};
 ghost use lib.Dec.{eqb};
-ghost use Rattle.words.specs.working.Word.{value, width};
+ghost use Rattle.words.specs.working.Word.{value, lentValue, width};
 
 pub struct Word {
-    pub low: u64,
-    pub high: u64,
+    low: u64,
+    high: u64,
 }
 
 pub fn zero_word() -> Word
@@ -27,18 +31,46 @@ pub fn of_numbers(low: u64, high: u64) -> Word
     Word { low, high }
 }
 
+// The word whose cells are the binary digits of a number.
+pub fn of_number(number: u64) -> Word
+    ensures { λ r. ⌜ value r ≡ number ⌝ }
+{
+    of_numbers(number, 0)
+}
+
 // The lowest 64 digits of the number that a word stands for.
-pub fn low_of(a: Word) -> u64
+fn low_of(a: Word) -> u64
     ensures { λ r. ⌜ r ≡ value a % 2 ^ 64 ⌝ }
 {
     a.low
 }
 
 // The digits above them.
-pub fn high_of(a: Word) -> u64
+fn high_of(a: Word) -> u64
     ensures { λ r. ⌜ r ≡ value a / 2 ^ 64 ⌝ }
 {
     a.high
+}
+
+// ---- a word that is lent
+
+// A word laid down as an array. A struct can't be lent, and one that is handed by value to a function that is not compiled into its
+// caller is copied whole, which waits until both of its numbers are stored; what is lent here is read number by number.
+pub type LentWord = [u64; 2];
+
+pub fn to_lend(word: Word) -> LentWord
+    ensures { λ r. ⌜ lentValue r ≡ value word ⌝ }
+{
+    let low = word.low;
+    let high = word.high;
+    [low, high]
+}
+
+// And taken up again.
+pub fn lent_word(lent: &LentWord) -> Word
+    ensures { λ r. ⌜ value r ≡ lentValue (now (lent .entry)) ⌝ }
+{
+    of_numbers(lent[0], lent[1])
 }
 
 // ---- all cells at once

@@ -7,7 +7,7 @@ use lib.ListN.{length, take, drop}
 use Rattle.line.specs.working.Packed.{IsLine, isOne, packBy, Packs}
 use Rattle.line.specs.Cells.{isErased}
 use Rattle.line.specs.declared.packed.Line.{Line}
-use Rattle.words.specs.working.Grid.{wordIn, Small}
+use Rattle.words.specs.working.Grid.{gridSize, wordIn, Small}
 use Rattle.words.specs.working.Word.{width}
 use Rattle.array.specs.Arrays.{line, transpose}
 
@@ -19,10 +19,10 @@ RowWords p n m word = (i : ℕ) → i < width → word i ≡ packBy p (line n m 
 pub record Held (n : ℕ) (m rows : List ℕ) : Type 0 where
   pub room : n ≤ width
   pub array : IsLine (n * n) m
-  pub long : length rows ≡ 512
+  pub long : length rows ≡ 2 * gridSize
   pub small : Small rows
   pub ones : RowWords isOne n m (λ i. wordIn rows 0 i)
-  pub erased : RowWords isErased n m (λ i. wordIn rows 256 i)
+  pub erased : RowWords isErased n m (λ i. wordIn rows gridSize i)
 
 -- an array with line i made y
 abbrev pub withLine : ℕ → List ℕ → ℕ → List ℕ → List ℕ

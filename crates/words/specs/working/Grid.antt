@@ -1,11 +1,16 @@
 -- Words kept in a list of numbers, a grid of 128 words: the low numbers of all, then their high numbers. Each quarter of its 128 by
--- 128 bits is then 64 numbers in a row.
+-- 128 bits is then 64 numbers in a row. Only this file and the code's `word` with the modules below it know how.
 use mathlib.Core.Path.{_≡_}
 use mathlib.Core.List.{List}
 use mathlib.Core.Logic.{_⊎_}
 use Prim.Native.Nat.{ℕ, _+_, _*_, _/_, _%_, _^_, _<_, _≤_}
 use lib.ListN.{getD, set}
 use Rattle.laws.specs.working.Bits.{bitAt}
+use Rattle.words.specs.working.Word.{width}
+
+-- the numbers that a grid takes
+abbrev pub gridSize : ℕ
+gridSize = 256
 
 -- word i of the grid that stands from `base` on
 unfoldable pub wordIn : List ℕ → (base i : ℕ) → ℕ
@@ -18,6 +23,11 @@ wordPut g base i v = set (set g (base + i) (v % 2 ^ 64)) (base + 128 + i) (v / 2
 -- all numbers fit the machine's
 abbrev pub Small : List ℕ → Type 0
 Small g = (i : ℕ) → getD g i 0 < 2 ^ 64
+
+-- of the grid from `base` on only the first n words have bits, and only in the first n cells
+pub record Within (n base : ℕ) (g : List ℕ) : Type 0 where
+  pub short : (i : ℕ) → i < width → wordIn g base i < 2 ^ n
+  pub none : (i : ℕ) → n ≤ i → i < width → wordIn g base i ≡ 0
 
 -- of the grid from `base` on only the first quarter has bits: at most 64 words of at most 64 bits
 abbrev pub Narrow : ℕ → List ℕ → Type 0
@@ -50,10 +60,10 @@ pub record Quarters (base : ℕ) (a b : List ℕ) : Type 0 where
   pub below : TurnedAt (base + 128) (base + 64) a b
   pub right : TurnedAt (base + 64) (base + 128) a b
   pub last : TurnedAt (base + 192) (base + 192) a b
-  pub stays : Stands base 256 a b
+  pub stays : Stands base gridSize a b
 
 -- b is a with the grid from `base` on transposed: bit j of word i of the one is bit i of word j of the other
 pub record GridTurned (base : ℕ) (a b : List ℕ) : Type 0 where
   pub small : Small b
-  pub bits : (i j : ℕ) → i < 128 → j < 128 → bitAt (wordIn b base i) j ≡ bitAt (wordIn a base j) i
-  pub stays : Stands base 256 a b
+  pub bits : (i j : ℕ) → i < width → j < width → bitAt (wordIn b base i) j ≡ bitAt (wordIn a base j) i
+  pub stays : Stands base gridSize a b

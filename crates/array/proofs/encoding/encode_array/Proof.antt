@@ -25,9 +25,6 @@ size-of-requires c κs = search needs
 message-cells-requires : tie.Need-message-cells-requires
 message-cells-requires c κs = search needs
 
-slice-aggregate-write-rows : tie.Need-slice-aggregate-write-rows
-slice-aggregate-write-rows c = search needs
-
 write-rows-requires : tie.Need-write-rows-requires
 write-rows-requires c κs =
     let m = c .before .before .before in
@@ -35,7 +32,7 @@ write-rows-requires c κs =
     let r = q .before .before in
     let u = r .before .before .before .before .before in
     let s = u .before in
-    (message-le (s .args .d) (m .message-cells .ensures), omega arith, size-le (s .args .d) (q .size-of .ensures), rw (q .size-of .ensures) (size-eights (s .args .d)), s .pre .1 ∙ ap₂ _*_ (sym (q .size-of .ensures)) (sym (q .size-of .ensures)))
+    (message-le (s .args .d) (m .message-cells .ensures), size-le (s .args .d) (q .size-of .ensures), rw (q .size-of .ensures) (size-eights (s .args .d)), s .pre .1 ∙ ap₂ _*_ (sym (q .size-of .ensures)) (sym (q .size-of .ensures)))
 
 same-length : tie.Need-same-length
 same-length c = search needs
@@ -60,7 +57,6 @@ encode-array-spec =
     encode-rows-requires
     size-of-requires
     message-cells-requires
-    slice-aggregate-write-rows
     write-rows-requires
     same-length
     returns)

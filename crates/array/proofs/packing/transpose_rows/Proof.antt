@@ -1,7 +1,5 @@
 -- `packing::transpose_rows` meets its contract: its two grids transposed hold the transposed array.
 -- Assumes nothing.
-use native.Mathlib.Omega.{arith}
-use borrow.Author.Tests.{leb-true}
 use Rattle.array.proofs.PackedLaws.{held-turned}
 use borrow.Author.Needs.{needs}
 use Rattle.array.proofs.packing.transpose_rows.Statement.{statement}
@@ -18,8 +16,8 @@ transpose-grid-requires-2 c κs = search needs
 
 returns : tie.Need-returns
 returns c =
-    let n = c .before .before .before .before .size-of in
-    held-turned _ _ _ _ _ (λ e. omega (arith, leb-true (n .result) 64 e, n .ensures)) (c .before .before .transpose-grid .ensures) (c .transpose-grid2 .ensures) (search needs)
+    let n = c .before .before .before .before .size-of .ensures in
+    held-turned _ _ _ _ (rw n at (c .before .before .transpose-grid .ensures)) (rw n at (c .transpose-grid2 .ensures)) (search needs)
 
 pub transpose-rows-spec : {M : Type 1} → statement M
 transpose-rows-spec =

@@ -9,8 +9,8 @@ use Rattle.field.proofs.Weights.{s1-lt, s3-lt}
 use Rattle.field.proofs.locate.word_place.Statement.{statement}
 use Rattle.field.proofs.locate.word_place.Tie as tie
 
-of-numbers-requires : tie.Need-of-numbers-requires
-of-numbers-requires c κs = search needs
+lent-word-requires : tie.Need-lent-word-requires
+lent-word-requires c κs = search needs
 
 syndrome-of-requires : tie.Need-syndrome-of-requires
 syndrome-of-requires c κs = search needs
@@ -19,7 +19,7 @@ place-of-requires : tie.Need-place-of-requires
 place-of-requires c κs =
     let s = c .syndrome-of .ensures in
     let d = c .before .before .args .d in
-    let cells = digits width (value (c .before .of-numbers .result)) in
+    let cells = digits width (value (c .before .lent-word .result)) in
     (rw (s .s1) (s1-lt d cells), rw (s .s3) (s3-lt d cells), c .before .before .pre)
 
 cast-result : tie.Need-cast-result
@@ -36,14 +36,14 @@ add-result c = search needs
 
 returns : tie.Need-returns
 returns c =
-    let word = c .before .before .before .of-numbers .ensures in
+    let word = c .before .before .before .lent-word .ensures in
     place-parts _ _ _ (rw word at (c .before .before .syndrome-of .ensures)) (omega arith) (c .before .place-of .ensures)
 
 pub word-place-spec : {M : Type 1} → statement M
 word-place-spec =
     tie.close
     (tie.spec
-    of-numbers-requires
+    lent-word-requires
     syndrome-of-requires
     place-of-requires
     cast-result

@@ -3,17 +3,14 @@
 use Prim.Native.Nat.{_/_, _%_}
 use native.Mathlib.Omega.{arith}
 use lib.Dec.{eqb}
-use Rattle.line.proofs.RowLaws.{word-place, from-halves}
+use Rattle.line.proofs.RowLaws.{word-place}
 use Rattle.line.proofs.Tries.{place-below, tried-bounded}
 use borrow.Author.Needs.{needs}
 use Rattle.line.proofs.bounded.bounded_word.Statement.{statement}
 use Rattle.line.proofs.bounded.bounded_word.Tie as tie
 
-low-of-requires : tie.Need-low-of-requires
-low-of-requires c κs = search needs
-
-high-of-requires : tie.Need-high-of-requires
-high-of-requires c κs = search needs
+to-lend-requires : tie.Need-to-lend-requires
+to-lend-requires c κs = search needs
 
 word-place-requires : tie.Need-word-place-requires
 word-place-requires c κs = search needs
@@ -32,15 +29,14 @@ returns : tie.Need-returns
 returns c =
     let a = c .before .before .before .before .before .args in
     let w = c .before .before .word-place in
-    let n = from-halves (c .before .before .before .before .low-of .ensures) (c .before .before .before .high-of .ensures) in
+    let n = c .before .before .before .before .to-lend .ensures in
     λ ws p. tried-bounded (a .d) (w .result) {t = c .mended .result} p (word-place p (rw n at (w .ensures))) (c .mended .ensures ws p)
 
 pub bounded-word-spec : {M : Type 1} → statement M
 bounded-word-spec =
     tie.close
     (tie.spec
-    low-of-requires
-    high-of-requires
+    to-lend-requires
     word-place-requires
     last-cell-requires
     mended-requires

@@ -1,12 +1,12 @@
--- `encoding::unit_table` meets its contract: each fixed table, with zeros behind it, passes the test of units, which is computed
--- here, over the table as it stands in the source.
+-- `line::encoding::unit_table` meets its contract: each fixed table of check cells passes the test of units, which is computed here,
+-- over the table as it stands in the source.
 -- Assumes nothing.
-use mathlib.Core.Path.{refl}
+use mathlib.Core.Path.{refl, sym}
 use Rattle.degree.specs.declared.Degree.the-variants.{Four, Six, Seven}
 use Rattle.field.specs.Field.{double, timesPower}
 use Rattle.laws.specs.Digits.{sumOver, ones, digits}
-use Rattle.words.specs.working.Grid.{wordIn}
 use Rattle.line.specs.Encoding.{sums, checksFor}
+use Rattle.line.specs.working.Units.{unitOf}
 use Rattle.line.proofs.UnitLaws.{unitWord, units?, units-rule}
 use borrow.Author.Needs.{needs}
 use Rattle.line.proofs.encoding.unit_table.Statement.{statement}
@@ -15,95 +15,73 @@ use Rattle.line.proofs.encoding.unit_table.Tie as tie
 enum-told : tie.Need-enum-told
 enum-told c = search needs
 
-slice-aggregate-copy-words : tie.Need-slice-aggregate-copy-words
-slice-aggregate-copy-words c = search needs
+slice-aggregate-put-units : tie.Need-slice-aggregate-put-units
+slice-aggregate-put-units c = search needs
 
-sub-copy-words : tie.Need-sub-copy-words
-sub-copy-words c = search needs
+slice-aggregate-put-units-2 : tie.Need-slice-aggregate-put-units-2
+slice-aggregate-put-units-2 c = search needs
 
-part-table-start : tie.Need-part-table-start
-part-table-start c = search needs
-
-part-table-end : tie.Need-part-table-end
-part-table-end c = search needs
-
-copy-words-requires : tie.Need-copy-words-requires
-copy-words-requires c κs = search needs
+put-units-requires : tie.Need-put-units-requires
+put-units-requires c κs = (rw (c .before .before .enum-told .given .1) refl, refl)
 
 enum-told-2 : tie.Need-enum-told-2
 enum-told-2 c = search needs
 
-slice-aggregate-copy-words-2 : tie.Need-slice-aggregate-copy-words-2
-slice-aggregate-copy-words-2 c = search needs
+slice-aggregate-put-units-3 : tie.Need-slice-aggregate-put-units-3
+slice-aggregate-put-units-3 c = search needs
 
-sub-copy-words-2 : tie.Need-sub-copy-words-2
-sub-copy-words-2 c = search needs
+slice-aggregate-put-units-4 : tie.Need-slice-aggregate-put-units-4
+slice-aggregate-put-units-4 c = search needs
 
-part-table-start-2 : tie.Need-part-table-start-2
-part-table-start-2 c = search needs
-
-part-table-end-2 : tie.Need-part-table-end-2
-part-table-end-2 c = search needs
-
-copy-words-requires-2 : tie.Need-copy-words-requires-2
-copy-words-requires-2 c κs = search needs
+put-units-requires-2 : tie.Need-put-units-requires-2
+put-units-requires-2 c κs = (rw (c .before .before .enum-told2 .given .1) refl, refl)
 
 enum-told-3 : tie.Need-enum-told-3
 enum-told-3 c = search needs
 
-slice-aggregate-copy-words-3 : tie.Need-slice-aggregate-copy-words-3
-slice-aggregate-copy-words-3 c = search needs
+slice-aggregate-put-units-5 : tie.Need-slice-aggregate-put-units-5
+slice-aggregate-put-units-5 c = search needs
 
-add-copy-words : tie.Need-add-copy-words
-add-copy-words c = search needs
+slice-aggregate-put-units-6 : tie.Need-slice-aggregate-put-units-6
+slice-aggregate-put-units-6 c = search needs
 
-sub-copy-words-3 : tie.Need-sub-copy-words-3
-sub-copy-words-3 c = search needs
-
-part-table-start-3 : tie.Need-part-table-start-3
-part-table-start-3 c = search needs
-
-part-table-end-3 : tie.Need-part-table-end-3
-part-table-end-3 c = search needs
-
-copy-words-requires-3 : tie.Need-copy-words-requires-3
-copy-words-requires-3 c κs = search needs
+put-units-requires-3 : tie.Need-put-units-requires-3
+put-units-requires-3 c κs = (rw (c .before .before .enum-told3 .given .1) refl, refl)
 
 returns : tie.Need-returns
-unfolding wordIn units? unitWord sums checksFor sumOver ones digits double timesPower
-returns c = rw (c .before .before .before .before .enum-told .given .1, c .before .copy-words .ensures) (units-rule Four _ tt refl)
+unfolding unitOf units? unitWord sums checksFor sumOver ones digits double timesPower
+returns c =
+    let known = c .before .before .before .before .enum-told .given .1 in
+    rw known (units-rule Four _ tt refl (rw known at (c .before .put-units .ensures)))
 
 returns-2 : tie.Need-returns-2
-unfolding wordIn units? unitWord sums checksFor sumOver ones digits double timesPower
-returns-2 c = rw (c .before .before .before .before .enum-told2 .given .1, c .before .copy-words2 .ensures) (units-rule Six _ tt refl)
+unfolding unitOf units? unitWord sums checksFor sumOver ones digits double timesPower
+returns-2 c =
+    let known = c .before .before .before .before .enum-told2 .given .1 in
+    rw known (units-rule Six _ tt refl (rw known at (c .before .put-units2 .ensures)))
 
 returns-3 : tie.Need-returns-3
-unfolding wordIn units? unitWord sums checksFor sumOver ones digits double timesPower
-returns-3 c = rw (c .before .before .before .before .enum-told3 .given .1, c .before .copy-words3 .ensures) (units-rule Seven _ tt refl)
+unfolding unitOf units? unitWord sums checksFor sumOver ones digits double timesPower
+returns-3 c =
+    let known = c .before .before .before .before .enum-told3 .given .1 in
+    rw known (units-rule Seven _ tt refl (rw known at (c .before .put-units3 .ensures)))
 
 pub unit-table-spec : {M : Type 1} → statement M
 unit-table-spec =
     tie.close
     (tie.spec
     enum-told
-    slice-aggregate-copy-words
-    sub-copy-words
-    part-table-start
-    part-table-end
-    copy-words-requires
+    slice-aggregate-put-units
+    slice-aggregate-put-units-2
+    put-units-requires
     enum-told-2
-    slice-aggregate-copy-words-2
-    sub-copy-words-2
-    part-table-start-2
-    part-table-end-2
-    copy-words-requires-2
+    slice-aggregate-put-units-3
+    slice-aggregate-put-units-4
+    put-units-requires-2
     enum-told-3
-    slice-aggregate-copy-words-3
-    add-copy-words
-    sub-copy-words-3
-    part-table-start-3
-    part-table-end-3
-    copy-words-requires-3
+    slice-aggregate-put-units-5
+    slice-aggregate-put-units-6
+    put-units-requires-3
     returns
     returns-2
     returns-3)
