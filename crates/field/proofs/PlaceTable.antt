@@ -19,13 +19,14 @@ use Rattle.degree.specs.declared.Degree.the-variants.{Six}
 use Rattle.degree.specs.Degree.{size, order}
 use Rattle.field.specs.declared.locate.Positions.{Positions}
 use Rattle.field.specs.declared.locate.Positions.the-variants.{Zero, One, Two, Unfit}
-use Rattle.field.specs.Field.{double, timesPower, power}
+use Rattle.field.specs.Field.{double, power}
 use Rattle.field.specs.working.Positions.{located}
 use Rattle.field.specs.working.Fitting.{Fits}
 use Rattle.field.specs.working.Building.{Copied}
 use Rattle.field.specs.working.Places.{positionsOf, Places}
 use Rattle.field.proofs.Locating.{located-is, located-unfit, zero≢unfit, one≢unfit, two≢unfit}
-use Rattle.field.proofs.Powers.{power-lt, power-pos}
+use Rattle.field.proofs.PowerTable.{productsFrom, powersOf, powers-listed}
+use Rattle.field.proofs.Powers.{power-lt, power-pos, lookedUp, looked-up}
 
 -- an entry that is no mark
 abbrev fit? : ℕ → Bool
@@ -40,16 +41,16 @@ fit-is e t = go (e / 16384) (omega (arith, ltb→lt e 49152 t))
     go (suc (suc zero)) h = two≢unfit
     go (suc (suc (suc q))) h = absurd (omega arith)
 
--- ps has the powers, ks the cube of each element
-module _ (d : Degree) (ps ks : List ℕ) where
+-- ks has the cube of each element
+module _ (d : Degree) (ks : List ℕ) where
   abbrev P : ℕ → ℕ
-  P i = getD ps i 0
+  P i = getD (powersOf d) i 0
 
   abbrev K : ℕ → ℕ
   K x = getD ks x 0
 
-  unfoldable pub lists? : Bool
-  lists? = eqb (K 0) 0 && every (λ i. eqb (P i) (power d i) && eqb (K (P i)) (power d (3 * i))) (order d)
+  unfoldable pub cubes? : Bool
+  cubes? = eqb (K 0) 0 && every (λ i. eqb (K (P i)) (lookedUp d (3 * i))) (order d)
 
   -- positions fit the check sums s1 and s3
   abbrev fits? : ℕ → ℕ → Positions → Bool
@@ -91,18 +92,16 @@ module _ (d : Degree) (ps ks : List ℕ) where
       let f : drop (size d * r) (drop (size d) t) ≡ drop (size d * suc r) t = drop-drop (size d * r) (size d) t ∙ ap (λ (k : ℕ). drop k t) more in
       subst (λ (k : ℕ). T (row? k (drop (size d * suc r) t))) e (subst (λ (u : List ℕ). T (row? (suc s1 + r) u)) f q)
 
-  module _ (lists : T lists?) where
+  module _ (cubes : T cubes?) where
     listed : (i : ℕ) → i < order d → (P i ≡ power d i) × (K (P i) ≡ power d (3 * i))
-    unfolding lists?
+    unfolding cubes?
     listed i h =
-        let a = eqb (P i) (power d i) in
-        let b = eqb (K (P i)) (power d (3 * i)) in
-        let t : T (a && b) = every-at (λ i. eqb (P i) (power d i) && eqb (K (P i)) (power d (3 * i))) (order d) (and-right (eqb (K 0) 0) _ lists) {k = i} h in
-        (eqb→eq (P i) (power d i) (and-left a b t), eqb→eq (K (P i)) (power d (3 * i)) (and-right a b t))
+        let t : T (eqb (K (P i)) (lookedUp d (3 * i))) = every-at (λ i. eqb (K (P i)) (lookedUp d (3 * i))) (order d) (and-right (eqb (K 0) 0) _ cubes) {k = i} h in
+        (powers-listed d .at i h, eqb→eq (K (P i)) (lookedUp d (3 * i)) t ∙ looked-up d (3 * i))
 
     no-cube : K 0 ≡ 0
-    unfolding lists?
-    no-cube = eqb→eq (K 0) 0 (and-left (eqb (K 0) 0) _ lists)
+    unfolding cubes?
+    no-cube = eqb→eq (K 0) 0 (and-left (eqb (K 0) 0) _ cubes)
 
     cube : (i : ℕ) → i < order d → K (power d i) ≡ power d (3 * i)
     cube i h = let l = listed i h in rw (l .0) at (l .1)
@@ -188,17 +187,13 @@ module _ (d : Degree) (ps ks : List ℕ) where
 
 -- ---- degree 6
 
--- α^0 to α^62
-unfoldable pub powersSix : List ℕ
-powersSix = 1 ∷ 2 ∷ 4 ∷ 8 ∷ 16 ∷ 32 ∷ 3 ∷ 6 ∷ 12 ∷ 24 ∷ 48 ∷ 35 ∷ 5 ∷ 10 ∷ 20 ∷ 40 ∷ 19 ∷ 38 ∷ 15 ∷ 30 ∷ 60 ∷ 59 ∷ 53 ∷ 41 ∷ 17 ∷ 34 ∷ 7 ∷ 14 ∷ 28 ∷ 56 ∷ 51 ∷ 37 ∷ 9 ∷ 18 ∷ 36 ∷ 11 ∷ 22 ∷ 44 ∷ 27 ∷ 54 ∷ 47 ∷ 29 ∷ 58 ∷ 55 ∷ 45 ∷ 25 ∷ 50 ∷ 39 ∷ 13 ∷ 26 ∷ 52 ∷ 43 ∷ 21 ∷ 42 ∷ 23 ∷ 46 ∷ 31 ∷ 62 ∷ 63 ∷ 61 ∷ 57 ∷ 49 ∷ 33 ∷ []
-
 -- the cube of each element
 unfoldable pub cubesSix : List ℕ
 cubesSix = 0 ∷ 1 ∷ 8 ∷ 15 ∷ 3 ∷ 22 ∷ 59 ∷ 40 ∷ 24 ∷ 18 ∷ 54 ∷ 58 ∷ 17 ∷ 15 ∷ 15 ∷ 23 ∷ 5 ∷ 24 ∷ 22 ∷ 13 ∷ 58 ∷ 51 ∷ 25 ∷ 22 ∷ 14 ∷ 24 ∷ 59 ∷ 43 ∷ 59 ∷ 57 ∷ 62 ∷ 58 ∷ 40 ∷ 57 ∷ 5 ∷ 18 ∷ 54 ∷ 51 ∷ 43 ∷ 40 ∷ 25 ∷ 3 ∷ 18 ∷ 14 ∷ 13 ∷ 3 ∷ 54 ∷ 62 ∷ 51 ∷ 62 ∷ 5 ∷ 14 ∷ 17 ∷ 8 ∷ 23 ∷ 8 ∷ 17 ∷ 23 ∷ 1 ∷ 1 ∷ 57 ∷ 43 ∷ 25 ∷ 13 ∷ []
 
-pub lists-six : T (lists? Six powersSix cubesSix)
-unfolding lists? powersSix cubesSix double timesPower
-lists-six = tt
+pub cubes-six : T (cubes? Six cubesSix)
+unfolding cubes? cubesSix productsFrom double
+cubes-six = tt
 
 -- ---- positions as an entry
 
@@ -224,5 +219,5 @@ places-behind d at from a b p c s1 s3 h1 h3 =
     rw (c .made k room) (rw (zero-add k) at (p s1 s3 h1 h3))
 
 -- the table of degree 6, copied behind others: what the test of its rule says
-pub places-six : {at : ℕ} {from a b : List ℕ} → Copied at 4096 from a b → T (places? Six powersSix cubesSix from) → Places Six at b
-places-six {at} {from} {a} {b} c t = places-behind Six at from a b (places-rule Six powersSix cubesSix lists-six from t) c
+pub places-six : {at : ℕ} {from a b : List ℕ} → Copied at 4096 from a b → T (places? Six cubesSix from) → Places Six at b
+places-six {at} {from} {a} {b} c t = places-behind Six at from a b (places-rule Six cubesSix cubes-six from t) c

@@ -2,14 +2,17 @@
 -- Assumes nothing.
 use mathlib.Core.Path.{_≡_, sym, ap, _∙_, subst}
 use mathlib.Core.Logic.{_≢_}
-use Prim.Native.Nat.{ℕ, zero, suc, _+_, _-_, _<_}
+use Prim.Native.Nat.{ℕ, zero, suc, _+_, _-_, _*_, _/_, _%_, _<_}
+use native.Mathlib.Nat.{zero-add, zero-mul, suc-mul, mod-lt, div-add-mod'}
 use native.Mathlib.Omega.{arith}
 use lib.Bits.{bitXor, xor-lt}
+use lib.ListN.{getD}
 use Rattle.laws.proofs.Xor.{xor-eq}
 use Rattle.degree.specs.declared.Degree.{Degree}
 use Rattle.degree.specs.Degree.{bits, size, order}
 use Rattle.field.specs.Field.{double, timesPower, power}
 use Rattle.field.proofs.Doubling.{times-zero, times-add, times-comm}
+use Rattle.field.proofs.PowerTable.{powersOf, powers-listed}
 use Rattle.field.proofs.Primitive.{primitive}
 
 module _ (d : Degree) where
@@ -34,6 +37,21 @@ module _ (d : Degree) where
 
   pub power-period : (i : ℕ) → power d (order d + i) ≡ power d i
   power-period i = times-add d (order d) i 1 ∙ times-order (power d i) (power-lt i)
+
+  power-turns : (q r : ℕ) → power d (q * order d + r) ≡ power d r
+  power-turns zero r = ap (λ (k : ℕ). power d k) (ap (λ (k : ℕ). k + r) (zero-mul (order d)) ∙ zero-add r)
+  power-turns (suc q) r =
+      let n : suc q * order d + r ≡ order d + (q * order d + r) = omega (arith, suc-mul q (order d)) in
+      ap (λ (k : ℕ). power d k) n ∙ power-period (q * order d + r) ∙ power-turns q r
+
+  -- a power looked up, whatever its exponent: tests that the checker computes use this
+  abbrev pub lookedUp : ℕ → ℕ
+  lookedUp i = getD (powersOf d) (i % order d) 0
+
+  pub looked-up : (i : ℕ) → lookedUp i ≡ power d i
+  looked-up i =
+      let some : 0 < order d = omega (arith, primitive d .more) in
+      powers-listed d .at (i % order d) (mod-lt i some) ∙ sym (power-turns (i / order d) (i % order d)) ∙ ap (λ (k : ℕ). power d k) (div-add-mod' i (order d))
 
   double-inj : {x y : ℕ} → x < size d → y < size d → double d x ≡ double d y → x ≡ y
   unfolding timesPower

@@ -25,6 +25,7 @@ use Rattle.laws.proofs.Tests.{every, every-at}
 use Rattle.laws.proofs.Xor.{digit-lt, xor-one}
 use Rattle.degree.specs.declared.Degree.{Degree}
 use Rattle.degree.specs.Degree.{size, order}
+use Rattle.field.proofs.Powers.{lookedUp, looked-up}
 use Rattle.words.specs.working.Grid.{gridSize, wordIn, wordPut}
 use Rattle.words.proofs.GridLaws.{put-long, put-next}
 use Rattle.line.specs.Cells.{IsWord}
@@ -44,10 +45,18 @@ pack-packs (w ∷ ws) = ap (λ (x : ℕ). x * 2 + one w) (pack-packs ws) ∙ sym
 module _ (d : Degree) where
   -- ---- the test of a table of units
 
+  -- what cell i adds to the two check sums, looked up
+  abbrev sumsAt : ℕ → ℕ
+  sumsAt i = lookedUp d (3 * i) * size d + lookedUp d i
+
+  sums-at : (i : ℕ) → sumsAt i ≡ sums d i
+  unfolding sums
+  sums-at i = ap₂ (λ (x y : ℕ). x * size d + y) (looked-up d (3 * i)) (looked-up d i)
+
   -- the encoded unit at a, with its check cells computed from one cell's check sums
   unfoldable pub unitWord : ℕ → ℕ
   unitWord a =
-      let c = digits (checkSize d) (checksFor d (sums d (checkSize d + a))) in
+      let c = digits (checkSize d) (checksFor d (sumsAt (checkSize d + a))) in
       (ones c + 1) % 2 * 2 ^ order d + (2 ^ a * 2 ^ checkSize d + pack c)
 
   -- the units are made from these check cells
@@ -81,7 +90,7 @@ module _ (d : Degree) where
       let o : sumOver (λ i. 1) m ≡ 1 = digits-power (λ i. 1) (messageSize d) a h in
       let parity : ones (c ++ m) % 2 ≡ (ones c + 1) % 2 =
       sym (sum-ones (c ++ m)) ∙ sum-append (λ i. 1) c m ∙ ap₂ bitXor (sum-ones c) o ∙ xor-one (ones c) in
-      sym (encode-word m (digits-length (messageSize d) (2 ^ a)) ∙ rw (parity, pack-digits (messageSize d) (2 ^ a) (pow-lt h), s))
+      rw (sums-at (checkSize d + a)) (sym (encode-word m (digits-length (messageSize d) (2 ^ a)) ∙ rw (parity, pack-digits (messageSize d) (2 ^ a) (pow-lt h), s)))
 
   -- what a passed test says
   pub units-rule : (entries : List ℕ) {t : List ℕ} → T (units? entries) → length entries ≡ messageSize d → UnitWords d entries t → Units d t

@@ -4,7 +4,9 @@
 use mathlib.Core.Path.{refl}
 use native.Mathlib.Omega.{arith}
 use borrow.Author.Needs.{needs}
-use Rattle.field.proofs.PlaceTable.{powersSix, cubesSix, rows?, places?, places-six}
+use Rattle.field.proofs.PlaceTable.{cubesSix, rows?, places?, places-six}
+use Rattle.field.specs.Field.{double}
+use Rattle.field.proofs.PowerTable.{productsFrom}
 use Rattle.field.proofs.places.put_places.Statement.{statement}
 use Rattle.field.proofs.places.put_places.Tie as tie
 
@@ -18,7 +20,7 @@ same-length : tie.Need-same-length
 same-length c = search needs
 
 returns : tie.Need-returns
-unfolding powersSix cubesSix rows? places?
+unfolding productsFrom double cubesSix rows? places?
 returns c =
     let e = c .before .before .copy-behind .ensures in
     (places-six e tt, e .kept)

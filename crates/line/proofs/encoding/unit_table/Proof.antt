@@ -3,9 +3,10 @@
 -- Assumes nothing.
 use mathlib.Core.Path.{refl, sym}
 use Rattle.degree.specs.declared.Degree.the-variants.{Four, Six, Seven}
-use Rattle.field.specs.Field.{double, timesPower}
+use Rattle.field.specs.Field.{double}
+use Rattle.field.proofs.PowerTable.{productsFrom}
 use Rattle.laws.specs.Digits.{sumOver, ones, digits}
-use Rattle.line.specs.Encoding.{sums, checksFor}
+use Rattle.line.specs.Encoding.{checksFor}
 use Rattle.line.specs.working.Units.{unitOf}
 use Rattle.line.proofs.UnitLaws.{unitWord, units?, units-rule}
 use borrow.Author.Needs.{needs}
@@ -49,19 +50,19 @@ put-units-requires-3 : tie.Need-put-units-requires-3
 put-units-requires-3 c κs = (rw (c .before .before .enum-told3 .given .1) refl, refl)
 
 returns : tie.Need-returns
-unfolding unitOf units? unitWord sums checksFor sumOver ones digits double timesPower
+unfolding unitOf units? unitWord checksFor sumOver ones digits productsFrom double
 returns c =
     let known = c .before .before .before .before .enum-told .given .1 in
     rw known (units-rule Four _ tt refl (rw known at (c .before .put-units .ensures)))
 
 returns-2 : tie.Need-returns-2
-unfolding unitOf units? unitWord sums checksFor sumOver ones digits double timesPower
+unfolding unitOf units? unitWord checksFor sumOver ones digits productsFrom double
 returns-2 c =
     let known = c .before .before .before .before .enum-told2 .given .1 in
     rw known (units-rule Six _ tt refl (rw known at (c .before .put-units2 .ensures)))
 
 returns-3 : tie.Need-returns-3
-unfolding unitOf units? unitWord sums checksFor sumOver ones digits double timesPower
+unfolding unitOf units? unitWord checksFor sumOver ones digits productsFrom double
 returns-3 c =
     let known = c .before .before .before .before .enum-told3 .given .1 in
     rw known (units-rule Seven _ tt refl (rw known at (c .before .put-units3 .ensures)))
