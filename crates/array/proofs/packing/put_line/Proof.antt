@@ -24,7 +24,7 @@ returns c =
     let ones = ap value (c .before .before .before .before .ones-of .ensures) in
     let erased = ap value (c .before .erased-of .ensures) in
     let first = rw ones at (c .before .before .before .put-word .ensures) in
-    rw (rw (erased, first) at (c .put-word2 .ensures)) (held-put _ _ _ (c .before .before .before .before .before .before .pre))
+    rw (rw (erased, first) at (c .put-word2 .ensures)) (held-put _ _ _ (search needs))
 
 pub put-line-spec : {M : Type 1} → statement M
 put-line-spec =
