@@ -1,7 +1,7 @@
 -- `line::encoding::unit_table` meets its contract: each fixed table of check cells passes the test of units, which is computed here,
 -- over the table as it stands in the source.
 -- Assumes nothing.
-use mathlib.Core.Path.{refl, sym}
+use mathlib.Core.Path.{refl}
 use Rattle.degree.specs.declared.Degree.the-variants.{Four, Six, Seven}
 use Rattle.field.specs.Field.{double}
 use Rattle.field.proofs.PowerTable.{productsFrom}
