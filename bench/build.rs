@@ -1,8 +1,10 @@
-//! Links the static library of the decoder.
+//! Links the static library of the decoder, and what the bench has in C.
 //!
-//! It is taken from `target/staticlib` of the repository, or from the file that `PUGDREL_LIB` names.
+//! The library is taken from `target/staticlib` of the repository, or from the file that `PUGDREL_LIB` names. What is in C is compiled
+//! with `cc`, or with the compiler that `CC` names.
 
 use std::path::{Path, PathBuf};
+use std::process::Command;
 use std::{env, process};
 
 /// The crate whose static library is linked. The name of its file follows from this: the bench has it nowhere else.
@@ -10,7 +12,18 @@ const CRATE: &str = "pugdrel";
 
 const VARIABLE: &str = "PUGDREL_LIB";
 
+/// The source in C, from here.
+const C_SOURCE: &str = "c/blocks.c";
+
+/// The variable that names another compiler for it than `cc`.
+const COMPILER: &str = "CC";
+
 fn main() {
+    link_library();
+    link_c();
+}
+
+fn link_library() {
     println!("cargo:rerun-if-env-changed={VARIABLE}");
     let library = library_path();
     println!("cargo:rerun-if-changed={}", library.display());
@@ -25,6 +38,50 @@ fn main() {
     };
     println!("cargo:rustc-link-search=native={}", directory.display());
     println!("cargo:rustc-link-lib=static={name}");
+}
+
+/// Compiles what is in C as an optimised program is, and makes a library of it.
+fn link_c() {
+    println!("cargo:rerun-if-env-changed={COMPILER}");
+    println!("cargo:rerun-if-changed={C_SOURCE}");
+    let named = env::var(COMPILER).unwrap_or_default();
+    let compiler = if named.is_empty() { "cc" } else { &named };
+    let made_in = PathBuf::from(env::var_os("OUT_DIR").unwrap_or_default());
+    let (object, library) = (made_in.join("blocks.o"), made_in.join("libin_c.a"));
+    let warnings = "-Wall -Wextra -Wpedantic";
+    let compile = format!("{compiler} -std=c99 -O2 -fPIC {warnings} -c {C_SOURCE} -o");
+    run(&compile, &[&object]);
+    run("ar crs", &[&library, &object]);
+    println!("cargo:rustc-link-search=native={}", made_in.display());
+    println!("cargo:rustc-link-lib=static=in_c");
+    // What is timed beside the library depends on who compiled it, so that the bench says it.
+    let version = run(&format!("{compiler} --version"), &[]);
+    let first = version.lines().next().unwrap_or(compiler);
+    println!("cargo:rustc-env=C_COMPILER={first}, -O2");
+}
+
+/// Runs a command of these words and paths, and gives what it prints.
+fn run(words: &str, paths: &[&Path]) -> String {
+    let mut words = words.split_whitespace();
+    let program = words.next().unwrap_or_default();
+    let ended = Command::new(program).args(words).args(paths).output();
+    let why = match ended {
+        Ok(output) if output.status.success() => {
+            return String::from_utf8_lossy(&output.stdout).into_owned();
+        }
+        Ok(output) => {
+            let said = String::from_utf8_lossy(&output.stderr);
+            format!(
+                "{program} ended with {} and said\n{}",
+                output.status,
+                said.trim_end()
+            )
+        }
+        Err(why) => format!("{program} does not run ({why})"),
+    };
+    eprintln!("{C_SOURCE} of the bench could not be compiled: {why}.");
+    eprintln!("It needs a C compiler, cc or the one that {COMPILER} names, and ar.");
+    process::exit(1);
 }
 
 fn library_path() -> PathBuf {

@@ -1,7 +1,8 @@
 /* pugdrel.h: a proved iterative decoder for product codes.
  *
  * An array of n by n bits, each row and column of which is a codeword of a t = 2 extended BCH code, arrives with some bits wrong
- * and some marked unsure. pugdrel_decode mends it. The other functions encode a message, take it out again, and work on one line.
+ * and some marked unsure. pugdrel_decode mends it. The other functions encode a message, take it out again, look up a row, work on
+ * one line, make the text that the program `sheet` prints, and read and write the files in which a recorder keeps a sheet.
  * The library is written in Rattle: the source of every function below is proved to return, to touch no memory but what it is
  * lent, and to give exactly what its contract says, for every input. The contracts are in crates/pugdrel/specs. Not proved are the
  * compiler's back end and this header, which repeats the types of the source by hand; examples/c checks every call.
@@ -10,6 +11,7 @@
  *
  *     rt staticlib pugdrel
  *     cc -Iinclude examples/c/decode.c target/staticlib/libpugdrel.a -o target/decode && target/decode
+ *     cc -Iinclude examples/c/blocks.c target/staticlib/libpugdrel.a -o target/blocks && target/blocks
  *
  * Sizes. The degree is 4, 6 or 7. At degree 4 a line has n = 16 cells, k = 7 of them message; at degree 6 n = 64 and k = 51; at
  * degree 7 n = 128 and k = 113. An array is n * n cells, row after row; a message is k * k cells. The length of every slice is
@@ -34,8 +36,9 @@
  * uint64_t slices are aligned as uint64_t. No pointer may be null, not even with length 0; nothing is read or written through
  * it then. The library has no data of its own that is written, so that calls from several threads need no lock as long as what
  * they write is lent to one alone. The stack need, as measured and at every degree, is 34 KiB for pugdrel_decode, 70 KiB for
- * pugdrel_sheet, 18 KiB for a line and 5 KiB for pugdrel_encode; a dynamic linker that binds memcpy and memset at their first call took
- * 3 KiB more then. Of the C library these two are used. */
+ * pugdrel_sheet, 18 KiB for a line, 5 KiB for pugdrel_encode and for pugdrel_read_blocks, and less than 1 KiB for
+ * pugdrel_write_blocks; a dynamic linker that binds memcpy and memset at their first call took 3 KiB more then. Of the C library
+ * these two are used. */
 #ifndef PUGDREL_H
 #define PUGDREL_H
 
@@ -55,9 +58,10 @@
 extern "C" {
 #endif
 
-/* The version of this header: 1000000 times the first number, 1000 times the second, and the third. It is 3.0.0. The first grows
- * where a call changes: a program is to compare it with pugdrel_version() where header and library may come apart. */
-#define PUGDREL_VERSION 3000000
+/* The version of this header: 1000000 times the first number, 1000 times the second, and the third. It is 3.1.0. The first grows
+ * where a call changes, the second where one is added: a program is to compare it with pugdrel_version() where header and library
+ * may come apart. */
+#define PUGDREL_VERSION 3001000
 
 /* The version of the library. */
 PUGDREL_NODISCARD
@@ -82,7 +86,10 @@ enum pugdrel_refusal {
     PUGDREL_BAD_DEGREE = 1,     /* not 4, 6 or 7 */
     PUGDREL_BAD_ITERATIONS = 2, /* 0, or above 20 */
     PUGDREL_BAD_LENGTH = 3,     /* a slice that is not of the exact length; a row number of n or more */
-    PUGDREL_BAD_CELL = 4        /* a cell above 2, or above 1 in a message or a word */
+    PUGDREL_BAD_CELL = 4,       /* a cell above 2, or above 1 in a message or a word */
+    PUGDREL_BAD_FILE = 5,       /* a file to read not of the exact length; a wrong byte 0 or 1; sheet numbers that differ */
+    PUGDREL_BAD_SUM = 6,        /* a sum of a block that fails */
+    PUGDREL_BAD_CONTENT = 7     /* a cell of 3 in a block, or a filler byte that is not zero */
 };
 
 /* A refusal number in words, for a log. The text is constant: nothing is to be freed. */
@@ -94,6 +101,9 @@ static inline const char *pugdrel_refusal_text(uint64_t number)
     case PUGDREL_BAD_ITERATIONS: return "iterations 0 or above 20";
     case PUGDREL_BAD_LENGTH: return "a slice not of the exact length, or a row number of n or more";
     case PUGDREL_BAD_CELL: return "a cell above 2, or above 1 in a message or a word";
+    case PUGDREL_BAD_FILE: return "a file not of 1536 bytes, a block's number or degree wrong, or sheet numbers that differ";
+    case PUGDREL_BAD_SUM: return "a sum of a block that fails";
+    case PUGDREL_BAD_CONTENT: return "a cell of 3 in a block, or a filler byte that is not zero";
     default: return "no refusal number of this library";
     }
 }
@@ -182,6 +192,46 @@ uint64_t pugdrel_messages(uint64_t degree, const uint8_t *incoming, size_t incom
 PUGDREL_NODISCARD
 uint64_t pugdrel_sheet(const uint8_t *input, size_t input_len, uint8_t *output, size_t output_len, uint64_t *report,
                        size_t report_len);
+
+/* ---- The recorder's files. */
+
+/* A sheet of degree 6, that is an array of 64 by 64 cells, with its number, in three blocks of 512 bytes one after the other. In
+ * each block:
+ *
+ *     byte 0            the block's number, 0 to 2
+ *     byte 1            6, the degree
+ *     bytes 2 and 3     the sheet number, high byte first, the same in all three
+ *     bytes 4 to 499    31 rows of 16 bytes, two bits a cell, cell 0 lowest: cell i of a row is bits 2 * (i % 4) and the next of
+ *                       byte i / 4; block b has the rows from 31 * b, so that block 2 has 62 and 63, in bytes 4 to 35, then zeros
+ *     bytes 500 to 509  zeros
+ *     bytes 510, 511    the sums A and B of bytes 0 to 509 modulo 255: both start at 0, each byte is added to A, then A to B
+ *
+ * The zeros are filler, and are tested. A sum is 0 to 254: 255 in place of 0 fails. In the bytes that are summed, though, the sums
+ * do not tell 0 and 255 apart. Writing what was read gives the file's own bytes, and reading what was written gives the sheet. */
+
+/* The bytes of a file. */
+#define PUGDREL_BLOCKS_FILE 1536
+
+/* The report of pugdrel_read_blocks. */
+enum pugdrel_read_report {
+    PUGDREL_SHEET_NUMBER = 0, /* 0 to 65535 */
+    PUGDREL_READ_REPORT = 1
+};
+
+/* Reads a sheet from a file into `cells`.
+ * file: any bytes, read only; its length is part of the file, and another than PUGDREL_BLOCKS_FILE is refused as 5 and never as 3.
+ * cells: 64 * 64, written only; what they held is not tested. report: 1 number.
+ * Refusals: 3 (cells or report), 5, 6, 7, each tested over all three blocks before the next. A refused read leaves every cell, and
+ * the sheet number that it reports is 0. */
+PUGDREL_NODISCARD
+uint64_t pugdrel_read_blocks(const uint8_t *file, size_t file_len, uint8_t *cells, size_t cells_len, uint64_t *report,
+                             size_t report_len);
+
+/* Writes a sheet, with a number that may be any, as the bytes of a file.
+ * cells: 64 * 64, read only. file: PUGDREL_BLOCKS_FILE bytes, written only; what they held is not tested.
+ * Refusals: 3, 4. A refused write leaves every byte. */
+PUGDREL_NODISCARD
+uint64_t pugdrel_write_blocks(uint16_t number, const uint8_t *cells, size_t cells_len, uint8_t *file, size_t file_len);
 
 #ifdef __cplusplus
 }

@@ -17,10 +17,12 @@ pub enum Entry {
     DecodeLine,
     Messages,
     Sheet,
+    ReadBlocks,
+    WriteBlocks,
 }
 
 impl Entry {
-    pub const ALL: [Entry; 8] = [
+    pub const ALL: [Entry; 10] = [
         Entry::Decode,
         Entry::Encode,
         Entry::Extract,
@@ -29,7 +31,14 @@ impl Entry {
         Entry::DecodeLine,
         Entry::Messages,
         Entry::Sheet,
+        Entry::ReadBlocks,
+        Entry::WriteBlocks,
     ];
+
+    /// Where it stands among all.
+    pub fn place(self) -> usize {
+        self as usize
+    }
 
     pub fn name(self) -> &'static str {
         match self {
@@ -41,6 +50,8 @@ impl Entry {
             Entry::DecodeLine => "decode_line",
             Entry::Messages => "messages",
             Entry::Sheet => "sheet",
+            Entry::ReadBlocks => "read_blocks",
+            Entry::WriteBlocks => "write_blocks",
         }
     }
 }
@@ -53,7 +64,9 @@ pub struct Call {
     pub iterations: u64,
     /// The row to look up.
     pub index: usize,
-    /// What is read: the received array, the message, the cells, the incoming line, or the text.
+    /// The sheet number to write.
+    pub number: u16,
+    /// What is read: the received array, the message, the cells, the incoming line, the text, or the file.
     pub input: Vec<u8>,
     /// The channel line.
     pub channel: Vec<u8>,
@@ -86,6 +99,7 @@ impl Call {
             degree,
             iterations: 0,
             index: 0,
+            number: 0,
             input: Vec::new(),
             channel: Vec::new(),
             filling: Vec::new(),
@@ -111,46 +125,58 @@ impl Call {
     }
 
     fn run_on(&self, side: Side, output: &mut [u8], report: &mut [u64]) -> u64 {
-        use Side::{Library, Plain};
-        use plain::entries as plain;
-        use pugdrel::entries as library;
-        let Call {
-            degree,
-            iterations,
-            index,
-            input,
-            channel,
-            filling,
-            ..
-        } = self;
-        let (degree, iterations, index) = (*degree, *iterations, *index);
-        let [low, high] = [0, 1].map(|at| filling.get(at).copied().unwrap_or(0));
-        match (self.entry, side) {
-            (Entry::Decode, Library) => {
-                library::decode(degree, iterations, input, filling, output, report)
-            }
-            (Entry::Decode, Plain) => {
-                plain::decode(degree, iterations, input, filling, output, report)
-            }
-            (Entry::Encode, Library) => library::encode(degree, input, output),
-            (Entry::Encode, Plain) => plain::encode(degree, input, output),
-            (Entry::Extract, Library) => library::extract(degree, input, output),
-            (Entry::Extract, Plain) => plain::extract(degree, input, output),
-            (Entry::Row, Library) => library::row(degree, input, index, report),
-            (Entry::Row, Plain) => plain::row(degree, input, index, report),
-            (Entry::BoundedDistance, Library) => library::bounded_distance(degree, output, report),
-            (Entry::BoundedDistance, Plain) => plain::bounded_distance(degree, output, report),
-            (Entry::DecodeLine, Library) => library::decode_line(degree, output, low, high, report),
-            (Entry::DecodeLine, Plain) => plain::decode_line(degree, output, low, high, report),
-            (Entry::Messages, Library) => {
-                library::messages(degree, input, channel, low, high, output, report)
-            }
-            (Entry::Messages, Plain) => {
-                plain::messages(degree, input, channel, low, high, output, report)
-            }
-            (Entry::Sheet, Library) => library::sheet(input, output, report),
-            (Entry::Sheet, Plain) => plain::sheet(input, output, report),
+        match side {
+            Side::Library => self.by_library(output, report),
+            Side::Plain => self.by_plain(output, report),
         }
+    }
+
+    fn by_library(&self, output: &mut [u8], report: &mut [u64]) -> u64 {
+        use pugdrel::entries::*;
+        let (degree, [low, high]) = (self.degree, self.filling_word());
+        let (input, channel) = (&self.input, &self.channel);
+        match self.entry {
+            Entry::Decode => {
+                let (iterations, filling) = (self.iterations, &self.filling);
+                decode(degree, iterations, input, filling, output, report)
+            }
+            Entry::Encode => encode(degree, input, output),
+            Entry::Extract => extract(degree, input, output),
+            Entry::Row => row(degree, input, self.index, report),
+            Entry::BoundedDistance => bounded_distance(degree, output, report),
+            Entry::DecodeLine => decode_line(degree, output, low, high, report),
+            Entry::Messages => messages(degree, input, channel, low, high, output, report),
+            Entry::Sheet => sheet(input, output, report),
+            Entry::ReadBlocks => read_blocks(input, output, report),
+            Entry::WriteBlocks => write_blocks(self.number, input, output),
+        }
+    }
+
+    /// The same, of the other module's functions.
+    fn by_plain(&self, output: &mut [u8], report: &mut [u64]) -> u64 {
+        use plain::entries::*;
+        let (degree, [low, high]) = (self.degree, self.filling_word());
+        let (input, channel) = (&self.input, &self.channel);
+        match self.entry {
+            Entry::Decode => {
+                let (iterations, filling) = (self.iterations, &self.filling);
+                decode(degree, iterations, input, filling, output, report)
+            }
+            Entry::Encode => encode(degree, input, output),
+            Entry::Extract => extract(degree, input, output),
+            Entry::Row => row(degree, input, self.index, report),
+            Entry::BoundedDistance => bounded_distance(degree, output, report),
+            Entry::DecodeLine => decode_line(degree, output, low, high, report),
+            Entry::Messages => messages(degree, input, channel, low, high, output, report),
+            Entry::Sheet => sheet(input, output, report),
+            Entry::ReadBlocks => read_blocks(input, output, report),
+            Entry::WriteBlocks => write_blocks(self.number, input, output),
+        }
+    }
+
+    /// The filling word of a line.
+    fn filling_word(&self) -> plain::Filling {
+        [0, 1].map(|at| self.filling.get(at).copied().unwrap_or(0))
     }
 
     /// Runs the call on both sides; what they left, if it is not the same.
@@ -195,6 +221,7 @@ impl fmt::Display for Call {
         writeln!(f, "degree {}", self.degree)?;
         writeln!(f, "iterations {}", self.iterations)?;
         writeln!(f, "index {}", self.index)?;
+        writeln!(f, "number {}", self.number)?;
         writeln!(f, "input {}", cells_text(&self.input))?;
         writeln!(f, "channel {}", cells_text(&self.channel))?;
         writeln!(f, "filling {}", words_text(&self.filling))?;
@@ -222,6 +249,7 @@ impl FromStr for Call {
             degree: field("degree")?.parse()?,
             iterations: field("iterations")?.parse()?,
             index: field("index")?.parse()?,
+            number: field("number")?.parse()?,
             input: cells_from(&field("input")?)?,
             channel: cells_from(&field("channel")?)?,
             filling: words_from(&field("filling")?)?,

@@ -5,8 +5,9 @@ use std::iter::repeat_n;
 use crate::call::{Call, Entry};
 use crate::damage;
 use crate::plain::entries::SHEET_OUTPUT;
-use crate::plain::{Code, Degree, text};
+use crate::plain::{Code, Degree, blocks, text};
 use crate::random::Random;
+use crate::recorder;
 
 /// Which calls a run is made of.
 pub struct Mix {
@@ -14,27 +15,48 @@ pub struct Mix {
     pub degrees: &'static [Degree],
     /// How often each entry is called, in the order of all: the ones with more to go wrong more often.
     weights: [usize; Entry::ALL.len()],
-    /// One call for so many of the count.
-    pub share: u64,
+    /// One call in so many has faults.
+    faulty: usize,
+    /// So many calls are made for so many of the count.
+    share: (u64, u64),
 }
 
 impl Mix {
-    /// A plain decoding of an array of degree 7 takes its time, so that there are fewer of these; and the long lines have calls
-    /// of their own, so that the others do not depend on them.
-    pub const ALL: [Mix; 2] = [
+    /// A plain decoding of an array of degree 7 takes its time, so that there are fewer of these; a file takes little, and has many
+    /// ways to be wrong. The long lines and the files have calls of their own, so that the others do not depend on them.
+    pub const ALL: [Mix; 3] = [
         Mix {
             name: "degree 4 or 6",
             degrees: &[Degree::Four, Degree::Six],
-            weights: [6, 1, 1, 1, 2, 3, 4, 2],
-            share: 1,
+            weights: [6, 1, 1, 1, 2, 3, 4, 2, 0, 0],
+            faulty: 4,
+            share: (1, 1),
         },
         Mix {
             name: "degree 7",
             degrees: &[Degree::Seven],
-            weights: [1, 1, 1, 1, 2, 3, 4, 1],
-            share: 4,
+            weights: [1, 1, 1, 1, 2, 3, 4, 1, 0, 0],
+            faulty: 4,
+            share: (1, 4),
+        },
+        Mix {
+            name: "files of the recorder",
+            degrees: &[Degree::Six],
+            weights: [0, 0, 0, 0, 0, 0, 0, 0, 2, 1],
+            faulty: 2,
+            share: (4, 1),
         },
     ];
+
+    /// The calls of a run with this count.
+    pub fn calls(&self, count: u64) -> u64 {
+        let (calls, of) = self.share;
+        count.saturating_mul(calls) / of
+    }
+
+    pub fn has(&self, entry: Entry) -> bool {
+        self.weights[entry.place()] > 0
+    }
 
     fn entry(&self, random: &mut Random) -> Entry {
         let weighted = Entry::ALL.into_iter().zip(self.weights);
@@ -47,12 +69,12 @@ impl Mix {
 /// with more draws, the calls of a seed would no longer be those that they were.
 const DRAWN: usize = 4244;
 
-/// A call of a random entry; one in four has faults.
+/// A call of a random entry, with faults as often as the mix says.
 pub fn random_call(mix: &Mix, random: &mut Random) -> Call {
     let entry = mix.entry(random);
     let degree = random.pick(mix.degrees);
     let mut call = good_call(entry, degree, random);
-    if random.one_in(4) {
+    if random.one_in(mix.faulty) {
         for _ in 0..random.between(1, 3) {
             add_fault(&mut call, random);
         }
@@ -62,6 +84,23 @@ pub fn random_call(mix: &Mix, random: &mut Random) -> Call {
 
 /// A call that is taken. What is only written holds any bytes.
 fn good_call(entry: Entry, degree: Degree, random: &mut Random) -> Call {
+    match entry {
+        Entry::Decode | Entry::Encode | Entry::Extract | Entry::Row => {
+            array_call(entry, degree, random)
+        }
+        Entry::BoundedDistance | Entry::DecodeLine | Entry::Messages => {
+            line_call(entry, degree, random)
+        }
+        Entry::Sheet => sheet_call(degree, random),
+        Entry::ReadBlocks => read_call(recorder::file(random), random),
+        Entry::WriteBlocks => {
+            let number = recorder::number(random);
+            write_call(number, recorder::sheet(random), random)
+        }
+    }
+}
+
+fn array_call(entry: Entry, degree: Degree, random: &mut Random) -> Call {
     let (code, n, k) = (Code::of(degree), degree.n(), degree.k());
     let mut call = Call::new(entry, degree.number());
     match entry {
@@ -80,11 +119,19 @@ fn good_call(entry: Entry, degree: Degree, random: &mut Random) -> Call {
             call.input = damage::received(code, random);
             call.output = random.bytes(k * k);
         }
-        Entry::Row => {
+        _ => {
             call.input = damage::received(code, random);
             call.index = random.below(n);
             call.report = random.words(2);
         }
+    }
+    call
+}
+
+fn line_call(entry: Entry, degree: Degree, random: &mut Random) -> Call {
+    let code = Code::of(degree);
+    let mut call = Call::new(entry, degree.number());
+    match entry {
         Entry::BoundedDistance => {
             call.output = word(code, random);
             call.report = random.words(2);
@@ -94,20 +141,40 @@ fn good_call(entry: Entry, degree: Degree, random: &mut Random) -> Call {
             call.filling = damage::filling(degree, 1, random);
             call.report = random.words(1);
         }
-        Entry::Messages => {
+        _ => {
             (call.input, call.channel) = damage::line_pair(code, random);
             call.filling = damage::filling(degree, 1, random);
-            call.output = random.bytes(n);
-            call.report = random.words(1);
-        }
-        Entry::Sheet => {
-            call.degree = 0;
-            call.input = sheet_text(degree, random);
-            let drawn = random.bytes(DRAWN).into_iter().cycle();
-            call.output = drawn.take(SHEET_OUTPUT).collect();
+            call.output = random.bytes(degree.n());
             call.report = random.words(1);
         }
     }
+    call
+}
+
+fn sheet_call(degree: Degree, random: &mut Random) -> Call {
+    let mut call = Call::new(Entry::Sheet, 0);
+    call.input = sheet_text(degree, random);
+    let drawn = random.bytes(DRAWN).into_iter().cycle();
+    call.output = drawn.take(SHEET_OUTPUT).collect();
+    call.report = random.words(1);
+    call
+}
+
+/// A call that reads this file.
+pub fn read_call(file: Vec<u8>, random: &mut Random) -> Call {
+    let mut call = Call::new(Entry::ReadBlocks, 0);
+    call.input = file;
+    call.output = random.bytes(blocks::CELLS);
+    call.report = random.words(1);
+    call
+}
+
+/// A call that writes this sheet.
+pub fn write_call(number: u16, cells: Vec<u8>, random: &mut Random) -> Call {
+    let mut call = Call::new(Entry::WriteBlocks, 0);
+    call.number = number;
+    call.input = cells;
+    call.output = random.bytes(blocks::FILE);
     call
 }
 
@@ -177,6 +244,8 @@ enum Fault {
     ChannelCell,
     /// A fault only where the output is worked on in place: old cells of a slice that is only written are not tested.
     OutputCell,
+    /// A flaw of the file that is read, its length too.
+    File,
 }
 
 /// The faults that a call of this entry can have.
@@ -211,6 +280,9 @@ fn faults_of(entry: Entry) -> &'static [Fault] {
             OutputCell,
         ],
         Entry::Sheet => &[OutputLength, ReportLength, InputLength],
+        // There are many flaws that a file can have.
+        Entry::ReadBlocks => &[File, File, File, File, File, OutputLength, ReportLength],
+        Entry::WriteBlocks => &[InputLength, InputCell, InputCell, OutputLength],
     }
 }
 
@@ -229,6 +301,7 @@ fn add_fault(call: &mut Call, random: &mut Random) {
         Fault::InputCell => spoil(&mut call.input, random),
         Fault::ChannelCell => spoil(&mut call.channel, random),
         Fault::OutputCell => spoil(&mut call.output, random),
+        Fault::File => recorder::spoil(&mut call.input, random),
     }
 }
 

@@ -6,11 +6,12 @@ use std::time::{Duration, Instant};
 
 use crate::arguments::{Arguments, Failure};
 use crate::call::{Call, Entry, Outcome, Side};
-use crate::calls::{Mix, random_call};
+use crate::calls::{Mix, random_call, read_call, write_call};
 use crate::damage;
 use crate::fast::{Decoder, Effort};
 use crate::plain::{Code, Degree, Half, UNSURE, erasures};
 use crate::random::Random;
+use crate::recorder;
 
 /// Makes random calls on both sides until one differs, and says at the end how many were made of each kind.
 pub fn conformance(mut arguments: Arguments) -> Result<(), Failure> {
@@ -18,11 +19,11 @@ pub fn conformance(mut arguments: Arguments) -> Result<(), Failure> {
     let count: u64 = arguments.option("count", 2000)?;
     arguments.end()?;
     for mix in Mix::ALL {
-        let count = count / mix.share;
+        let count = mix.calls(count);
         let run = format!("of seed {seed}, {}", mix.name);
         let tally = agreeing_calls(&mix, count, &mut Random::new(seed))
             .map_err(|why| format!("{why}, {run}"))?;
-        tally.print();
+        tally.print(&mix);
         println!("{count} calls {run}: all agree");
         println!();
     }
@@ -37,7 +38,7 @@ fn agreeing_calls(mix: &Mix, count: u64, random: &mut Random) -> Result<Tally, F
     for done in 0..count {
         progress.show(done);
         let call = if random.one_in(20) {
-            within_condition(random.pick(mix.degrees), random)?
+            known_call(mix, random)?
         } else {
             random_call(mix, random)
         };
@@ -74,8 +75,17 @@ pub fn replay(mut arguments: Arguments) -> Result<(), Failure> {
     }
 }
 
+/// A call whose outcome a demand tells, which the library alone is held to. It is handed on, to be compared with the plain one as well.
+fn known_call(mix: &Mix, random: &mut Random) -> Result<Call, Failure> {
+    if mix.has(Entry::ReadBlocks) {
+        there_and_back(random)
+    } else {
+        within_condition(random.pick(mix.degrees), random)
+    }
+}
+
 /// Demand 3's last sentence, by the library alone: an array that it encodes, damaged within the row condition, must come
-/// out as sent, closed, and with its message. The decoding is handed on, to be compared with the plain one as well.
+/// out as sent, closed, and with its message. The decoding is handed on.
 fn within_condition(degree: Degree, random: &mut Random) -> Result<Call, Failure> {
     let (n, k) = (degree.n(), degree.k());
     let mut encode = Call::new(Entry::Encode, degree.number());
@@ -102,6 +112,23 @@ fn within_condition(degree: Degree, random: &mut Random) -> Result<Call, Failure
         return Err("an array within the row condition did not come out as sent".into());
     }
     Ok(decode)
+}
+
+/// W-201 by the library alone: "writing what was read yields the file's own bytes, and reading what was written yields the
+/// sheet". The reading is handed on.
+fn there_and_back(random: &mut Random) -> Result<Call, Failure> {
+    let number = recorder::number(random);
+    let write = write_call(number, recorder::sheet(random), random);
+    let file = write.run(Side::Library).after.output;
+    let read = read_call(file.clone(), random);
+    let sheet = read.run(Side::Library).after;
+    let again = write_call(sheet.report[0] as u16, sheet.output.clone(), random);
+    let own_bytes = again.run(Side::Library).after.output == file;
+    if !own_bytes || sheet.output != write.input || sheet.report != [u64::from(number)] {
+        println!("{write}\n{read}\n{again}");
+        return Err("a sheet was not read as it was written, or not written as it was read".into());
+    }
+    Ok(read)
 }
 
 /// The fast decoder is a third opinion on a decoding that is taken.
@@ -154,11 +181,14 @@ fn differences<T: PartialEq + std::fmt::Debug>(name: &str, library: &[T], plain:
     lines.collect()
 }
 
+/// Refusals are numbered from 1 to this.
+const REFUSALS: usize = 7;
+
 /// What a run went through, so that a reader sees what it did not.
 #[derive(Default)]
 struct Tally {
     /// Calls of each entry by refusal number.
-    calls: [[u64; 5]; Entry::ALL.len()],
+    calls: [[u64; REFUSALS + 1]; Entry::ALL.len()],
     /// Of the decodings that were taken: those that ended closed, the sum of their counts, and what that would be if no
     /// line had more or less than the two decodings that it starts with.
     closed: u64,
@@ -170,9 +200,8 @@ struct Tally {
 
 impl Tally {
     fn add(&mut self, call: &Call, outcome: &Outcome) {
-        let entry = Entry::ALL.iter().position(|&entry| entry == call.entry);
-        let refusal = (outcome.refusal as usize).min(4);
-        self.calls[entry.unwrap_or_default()][refusal] += 1;
+        let refusal = (outcome.refusal as usize).min(REFUSALS);
+        self.calls[call.entry.place()][refusal] += 1;
         if call.entry == Entry::Decode && refusal == 0 {
             let lines = call.filling.len() as u64 / 2;
             self.closed += outcome.after.report[2];
@@ -184,14 +213,24 @@ impl Tally {
         }
     }
 
-    fn print(&self) {
-        println!("| entry | taken | refused 1 | refused 2 | refused 3 | refused 4 |");
-        println!("|---|---|---|---|---|---|");
-        for (entry, numbers) in Entry::ALL.iter().zip(&self.calls) {
-            let numbers = numbers.map(|number| number.to_string()).join(" | ");
-            println!("| {} | {numbers} |", entry.name());
+    /// Prints what was counted of the entries that the mix has.
+    fn print(&self, mix: &Mix) {
+        let refused: String = (1..=REFUSALS)
+            .map(|number| format!(" refused {number} |"))
+            .collect();
+        println!("| entry | taken |{refused}");
+        println!("|{}", "---|".repeat(2 + REFUSALS));
+        for entry in Entry::ALL.into_iter().filter(|&entry| mix.has(entry)) {
+            let numbers = self.calls[entry.place()].map(|number| number.to_string());
+            println!("| {} | {} |", entry.name(), numbers.join(" | "));
         }
-        let [taken, ..] = self.calls[0];
+        if mix.has(Entry::Decode) {
+            self.print_decodings();
+        }
+    }
+
+    fn print_decodings(&self) {
+        let [taken, ..] = self.calls[Entry::Decode.place()];
         println!(
             "Of {taken} decodings, {} closed; counts sum to {}, where 2 a line would be {}.",
             self.closed, self.count, self.two_a_line

@@ -1,17 +1,21 @@
 //! The bench of Pugdrel: the static library of the proved decoder beside two independent implementations in Rust.
 //!
-//! - [`plain`] is document 01 in the plainest form; [`fast`] is a decoder for speed, checked against it.
-//! - [`pugdrel`] calls the library.
-//! - [`conformance`], [`malformed`], [`timing`], [`times`], [`simulate`] and [`picture`] have the commands of the program `bench`.
+//! - [`plain`] is documents 01 and 02 in the plainest form; [`fast`] is a decoder for speed, checked against it.
+//! - [`pugdrel`] calls the library; [`in_c`] calls a reader and a writer of the recorder's files that are written in C.
+//! - [`conformance`], [`malformed`], [`timing`], [`times`], [`blocks`], [`simulate`] and [`picture`] have the commands of the program
+//!   `bench`.
 
 #![deny(unsafe_code)]
 
 pub mod arguments;
+pub mod blocks;
 pub mod call;
 mod calls;
 pub mod conformance;
 mod damage;
 pub mod fast;
+#[allow(unsafe_code)]
+pub mod in_c;
 mod machine;
 pub mod malformed;
 pub mod picture;
@@ -19,6 +23,7 @@ pub mod plain;
 #[allow(unsafe_code)]
 pub mod pugdrel;
 mod random;
+mod recorder;
 pub mod simulate;
 mod svg;
 pub mod times;

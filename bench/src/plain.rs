@@ -1,10 +1,11 @@
-//! Document 01, said again in the plainest way.
+//! Documents 01 and 02, said again in the plainest way.
 //!
 //! Nothing here is clever: a codeword is tested by its three facts, bounded distance tries every flip of one and of
 //! two cells, and every message costs a line decoding of its own. What the library answers is compared with this, so
-//! that it should be seen to be right by reading it beside the document.
+//! that it should be seen to be right by reading it beside the documents.
 
 pub mod array;
+pub mod blocks;
 pub mod clauses;
 pub mod code;
 pub mod entries;

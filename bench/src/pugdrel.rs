@@ -5,7 +5,7 @@
 //! with, or with the [`Refusal`].
 //!
 //! The library asks nothing of its caller: slices may have any length and cells any value. So every function here is
-//! safe, and this is the only module of the bench with `unsafe` in it.
+//! safe. Only this module of the bench and `in_c` have `unsafe` in them.
 
 use std::fmt;
 
@@ -24,18 +24,27 @@ pub enum Refusal {
     Length,
     /// 4: a cell above 2, or above 1 where a cell cannot be unsure.
     Cell,
-    /// A number that is not in document 01.
+    /// 5: a file that is not three blocks of one sheet: its length, a byte 0 or 1, or sheet numbers that differ.
+    File,
+    /// 6: a sum of a block that fails.
+    Sum,
+    /// 7: a cell of 3 in a file, or a filler byte that is not zero.
+    Content,
+    /// A number that is not in documents 01 and 02.
     Unknown(u64),
 }
 
 impl Refusal {
-    /// The number of document 01.
+    /// The number of documents 01 and 02.
     pub fn number(self) -> u64 {
         match self {
             Refusal::Degree => 1,
             Refusal::Iterations => 2,
             Refusal::Length => 3,
             Refusal::Cell => 4,
+            Refusal::File => 5,
+            Refusal::Sum => 6,
+            Refusal::Content => 7,
             Refusal::Unknown(number) => number,
         }
     }
@@ -48,6 +57,9 @@ impl Refusal {
             2 => Err(Refusal::Iterations),
             3 => Err(Refusal::Length),
             4 => Err(Refusal::Cell),
+            5 => Err(Refusal::File),
+            6 => Err(Refusal::Sum),
+            7 => Err(Refusal::Content),
             number => Err(Refusal::Unknown(number)),
         }
     }
@@ -154,6 +166,18 @@ pub fn sheet(input: &[u8]) -> Result<Vec<u8>, Refusal> {
     Refusal::test(entries::sheet(input, &mut output, &mut report))?;
     output.truncate(report[0] as usize);
     Ok(output)
+}
+
+/// Reads the cells of a sheet of degree 6 from its file, three blocks of 512 bytes, and gives the sheet's number.
+pub fn read_blocks(file: &[u8], cells: &mut [u8]) -> Result<u16, Refusal> {
+    let mut report = [0; 1];
+    Refusal::test(entries::read_blocks(file, cells, &mut report))?;
+    Ok(report[0] as u16)
+}
+
+/// Writes the file of a sheet of degree 6.
+pub fn write_blocks(number: u16, cells: &[u8], file: &mut [u8]) -> Result<(), Refusal> {
+    Refusal::test(entries::write_blocks(number, cells, file))
 }
 
 /// The functions of the library as they are. Each returns the refusal number, 0 for none; the numbers that it answers
@@ -314,6 +338,35 @@ pub mod entries {
             )
         }
     }
+
+    /// Reports the sheet's number.
+    pub fn read_blocks(file: &[u8], cells: &mut [u8], report: &mut [u64]) -> u64 {
+        // SAFETY: as in `decode`.
+        unsafe {
+            library::pugdrel_read_blocks(
+                file.as_ptr(),
+                file.len(),
+                cells.as_mut_ptr(),
+                cells.len(),
+                report.as_mut_ptr(),
+                report.len(),
+            )
+        }
+    }
+
+    /// Reports nothing.
+    pub fn write_blocks(number: u16, cells: &[u8], file: &mut [u8]) -> u64 {
+        // SAFETY: as in `decode`.
+        unsafe {
+            library::pugdrel_write_blocks(
+                number,
+                cells.as_ptr(),
+                cells.len(),
+                file.as_mut_ptr(),
+                file.len(),
+            )
+        }
+    }
 }
 
 /// The C interface, as `include/pugdrel.h` declares it.
@@ -398,6 +451,23 @@ mod library {
             output_len: usize,
             report: *mut u64,
             report_len: usize,
+        ) -> u64;
+
+        pub fn pugdrel_read_blocks(
+            file: *const u8,
+            file_len: usize,
+            cells: *mut u8,
+            cells_len: usize,
+            report: *mut u64,
+            report_len: usize,
+        ) -> u64;
+
+        pub fn pugdrel_write_blocks(
+            number: u16,
+            cells: *const u8,
+            cells_len: usize,
+            file: *mut u8,
+            file_len: usize,
         ) -> u64;
     }
 }

@@ -1,4 +1,4 @@
-//! The library through its safe wrapper: the examples of document 01, and what a refusal leaves.
+//! The library through its safe wrapper: the examples of document 01, files of the recorder, and what a refusal leaves.
 
 use pugdrel_bench::pugdrel::{self, Refusal};
 
@@ -246,6 +246,104 @@ fn refusals_have_their_numbers_and_change_nothing() {
         pugdrel::encode(4, &[2; 49], &mut [0; 256]),
         Err(Refusal::Cell)
     );
+}
+
+/// The recording of the sample: read, mended, written and read again; and what was read is written as the file's own bytes.
+#[test]
+fn a_recording_is_read_mended_and_written() {
+    let recording = include_bytes!("../../samples/degree6.blocks");
+    let sent = include_str!("../../samples/degree6-sent.txt");
+    let cell = |character| match character {
+        '?' => UNSURE,
+        digit => digit as u8 - b'0',
+    };
+    let sent: Vec<u8> = sent
+        .lines()
+        .skip(1)
+        .flat_map(str::chars)
+        .map(cell)
+        .collect();
+    let (mut received, mut mended) = (vec![9; 4096], vec![9; 4096]);
+    let number = pugdrel::read_blocks(recording, &mut received).unwrap();
+    assert_eq!(number, 0x1234);
+    let report = pugdrel::decode(6, 1, &received, &[0; 256], &mut mended).unwrap();
+    assert!(report.closed && mended == sent);
+
+    let mut file = vec![9; 1536];
+    pugdrel::write_blocks(number, &mended, &mut file).unwrap();
+    assert_eq!(pugdrel::read_blocks(&file, &mut mended), Ok(number));
+    assert!(mended == sent);
+    pugdrel::write_blocks(number, &received, &mut file).unwrap();
+    assert!(file == recording);
+}
+
+/// A sheet of zeros: 0xf9 and 6 are 255, so that the sums of block 0 are 0 and 6.
+#[test]
+fn a_sheet_of_zeros_is_written_as_known() {
+    let mut file = vec![9; 1536];
+    pugdrel::write_blocks(0xf900, &[0; 4096], &mut file).unwrap();
+    for (number, block) in file.chunks(512).enumerate() {
+        assert_eq!(block[..4], [number as u8, 6, 0xf9, 0]);
+        assert!(block[4..510].iter().all(|&byte| byte == 0));
+        assert_eq!(block[510], number as u8);
+    }
+    assert_eq!(file[511], 6);
+}
+
+#[test]
+fn files_are_refused_and_change_nothing() {
+    let mut good = vec![9; 1536];
+    pugdrel::write_blocks(0xf900, &[0; 4096], &mut good).unwrap();
+    let mut cells = vec![9; 4096];
+    let mut refusal = |file: &[u8]| {
+        let refused = pugdrel::read_blocks(file, &mut cells);
+        assert!(cells.iter().all(|&cell| cell == 9));
+        refused.unwrap_err()
+    };
+    let with = |changes: &[(usize, u8)]| {
+        let mut file = good.clone();
+        changes.iter().for_each(|&(place, byte)| file[place] = byte);
+        file
+    };
+    assert_eq!(refusal(&[]), Refusal::File);
+    assert_eq!(refusal(&good[..1535]), Refusal::File);
+    assert_eq!(refusal(&[&good[..], &[0]].concat()), Refusal::File);
+    assert_eq!(refusal(&with(&[(1024, 1)])), Refusal::File);
+    assert_eq!(refusal(&with(&[(513, 4), (510, 9)])), Refusal::File);
+    assert_eq!(refusal(&with(&[(3, 255)])), Refusal::File);
+    assert_eq!(refusal(&with(&[(510, 255)])), Refusal::Sum);
+    assert_eq!(refusal(&with(&[(100, 255), (1535, 9)])), Refusal::Sum);
+    // The sums do not see 255 in place of 0: four cells of 3, and filler.
+    assert_eq!(refusal(&with(&[(100, 255)])), Refusal::Content);
+    assert_eq!(refusal(&with(&[(1024 + 36, 255)])), Refusal::Content);
+    assert_eq!(refusal(&with(&[(1533, 255)])), Refusal::Content);
+    assert_eq!(
+        pugdrel::read_blocks(&[], &mut [9; 4095]),
+        Err(Refusal::Length)
+    );
+    let other_number = with(&[(3, 255), (515, 255), (1027, 255)]);
+    assert_eq!(pugdrel::read_blocks(&other_number, &mut cells), Ok(0xf9ff));
+}
+
+#[test]
+fn sheets_are_refused_and_change_nothing() {
+    let mut file = vec![9; 1537];
+    let mut refusal = |cells: &[u8], length: usize| {
+        let refused = pugdrel::write_blocks(1, cells, &mut file[..length]);
+        assert!(file.iter().all(|&byte| byte == 9));
+        refused.unwrap_err()
+    };
+    assert_eq!(refusal(&[3; 4096], 1535), Refusal::Length);
+    assert_eq!(refusal(&[3; 4096], 1537), Refusal::Length);
+    assert_eq!(refusal(&[3; 4095], 1536), Refusal::Length);
+    assert_eq!(refusal(&[3; 4097], 1536), Refusal::Length);
+    for place in [0, 1983, 1984, 4095] {
+        let mut cells = [2; 4096];
+        cells[place] = 3;
+        assert_eq!(refusal(&cells, 1536), Refusal::Cell);
+    }
+    let numbers = [Refusal::File, Refusal::Sum, Refusal::Content].map(Refusal::number);
+    assert_eq!(numbers, [5, 6, 7]);
 }
 
 #[test]

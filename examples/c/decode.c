@@ -1,24 +1,15 @@
-/* Sends messages through a bad channel and back, and calls every function of the library once with a result that is known.
+/* Sends messages through a bad channel and back, and calls every function of the library with a result that is known, but for the
+ * reader and the writer of the recorder's files: blocks.c has those.
  * Build and run, from the root of the repository, after `rt staticlib pugdrel`:
  *
  *     cc -Iinclude examples/c/decode.c target/staticlib/libpugdrel.a -o target/decode && target/decode
  *
  * The exit status is 0 if everything is as it should be. */
+#include "check.h"
 #include "pugdrel.h"
 
 #include <stdio.h>
 #include <string.h>
-
-static int checks, failures;
-
-static void check(int holds, const char *what)
-{
-    checks++;
-    if (!holds) {
-        failures++;
-        fprintf(stderr, "does not hold: %s\n", what);
-    }
-}
 
 /* A small generator of numbers, the same in every run. */
 static uint64_t state = 1;
@@ -230,7 +221,7 @@ static void refusals(void)
 static void words_of_refusals(void)
 {
     uint64_t a, b;
-    for (a = 0; a <= PUGDREL_BAD_CELL + 1; a++)
+    for (a = 0; a <= PUGDREL_BAD_CONTENT + 1; a++)
         for (b = 0; b < a; b++)
             check(strcmp(pugdrel_refusal_text(a), pugdrel_refusal_text(b)) != 0, "two refusals have different words");
 }
@@ -379,6 +370,5 @@ int main(void)
     words_of_refusals();
     lines();
     refused_sheets();
-    printf("%d checks, %d failed\n", checks, failures);
-    return failures != 0;
+    return verdict();
 }

@@ -4,7 +4,7 @@
 //! that it answers with, and the refusal number as its result, 0 for none. A refused call changes no lent cell, and the
 //! numbers of its report are 0; a report of a wrong length is itself refused as 3, and keeps what it held.
 
-use super::{Code, Degree, UNSURE, text};
+use super::{Code, Degree, UNSURE, blocks, text};
 
 /// Bytes that `sheet` has room for: four numbers of 21 bytes at most and 128 lines of 129.
 pub const SHEET_OUTPUT: usize = 16596;
@@ -12,7 +12,7 @@ pub const SHEET_OUTPUT: usize = 16596;
 /// Iterations: 1 to this.
 pub const MOST_ITERATIONS: u64 = 20;
 
-/// A refusal number, 1 to 4.
+/// A refusal number, 1 to 7.
 type Refused = u64;
 
 pub fn decode(
@@ -169,6 +169,31 @@ pub fn sheet(input: &[u8], output: &mut [u8], report: &mut [u64]) -> u64 {
         [text.len() as u64]
     });
     answered(answer, report)
+}
+
+/// Reports the number of the sheet that the file holds, and leaves its cells. The file's own length is test 5.
+pub fn read_blocks(file: &[u8], cells: &mut [u8], report: &mut [u64]) -> u64 {
+    let tests = || {
+        test_lengths(&[(cells.len(), blocks::CELLS), (report.len(), 1)])?;
+        blocks::read(file)
+    };
+    let answer = tests().map(|(number, of_file)| {
+        cells.copy_from_slice(&of_file);
+        [u64::from(number)]
+    });
+    answered(answer, report)
+}
+
+pub fn write_blocks(number: u16, cells: &[u8], file: &mut [u8]) -> u64 {
+    let tests = || {
+        test_lengths(&[(cells.len(), blocks::CELLS), (file.len(), blocks::FILE)])?;
+        test_cells(cells, UNSURE)
+    };
+    let answer = tests().map(|()| {
+        file.copy_from_slice(&blocks::written(number, cells));
+        []
+    });
+    answered(answer, &mut [])
 }
 
 /// Test 1.

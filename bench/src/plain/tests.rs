@@ -1,4 +1,4 @@
-//! The examples of document 01, and properties that its sentences name.
+//! The examples of document 01, and properties that the sentences of documents 01 and 02 name.
 
 use std::fs;
 use std::path::Path;
@@ -427,4 +427,128 @@ fn malformed_texts() {
     assert_eq!(text(&good.replacen('0', "2", 1)), "4 0 0 0\n");
     assert_eq!(text(&good.replacen("0\n0", "x\n0", 1)), "4 0 0 0\n");
     assert_eq!(text(&good.replacen("\n0", "\r0", 2)), "1 0 0 0\n");
+}
+
+/// A sheet of zeros with the number 0x0102, by hand: block 0 has bytes 0, 6, 1, 2 and then zeros, so that A goes 0, 6, 7, 9 and
+/// stays, and B is 0 + 6 + 7 + 9 + 506 * 9 = 4576, which is 241.
+#[test]
+fn a_sheet_of_zeros_has_known_sums() {
+    let file = blocks::written(0x0102, &[0; 4096]);
+    for (number, block) in file.chunks(512).enumerate() {
+        assert_eq!(block[..4], [number as u8, 6, 1, 2]);
+        assert!(block[4..510].iter().all(|&byte| byte == 0));
+        assert_eq!(block[510..], [9 + number as u8, 241]);
+    }
+    assert_eq!(blocks::read(&file), Ok((0x0102, vec![0; 4096])));
+}
+
+/// The row, the column and the value of the only cell that is not 0; the byte of the file that is then not 0, and its value.
+#[test]
+fn a_cell_has_its_place_in_a_file() {
+    for (row, column, cell, place, byte) in [
+        (0, 0, 1, 4, 1),
+        (0, 1, 2, 4, 8),
+        (0, 63, 2, 19, 128),
+        (30, 63, 1, 499, 64),
+        (31, 0, 1, 512 + 4, 1),
+        (40, 7, 2, 512 + 149, 128),
+        (62, 0, 2, 1024 + 4, 2),
+        (63, 63, 1, 1024 + 35, 64),
+    ] {
+        let mut cells = vec![0; 4096];
+        cells[64 * row + column] = cell;
+        let file = blocks::written(0, &cells);
+        let held = |&place: &usize| (4..510).contains(&(place % 512)) && file[place] != 0;
+        assert_eq!((0..1536).filter(held).collect::<Vec<_>>(), [place]);
+        assert_eq!(file[place], byte);
+        assert_eq!(blocks::read(&file), Ok((0, cells)));
+    }
+}
+
+#[test]
+fn a_file_is_read_as_it_was_written() {
+    let mut random = Random::new(10);
+    for number in [0, 1, 255, 256, 0x1234, u16::MAX] {
+        let cells: Vec<u8> = (0..4096).map(|_| random.below(3) as u8).collect();
+        let file = blocks::written(number, &cells);
+        assert_eq!(blocks::read(&file), Ok((number, cells)));
+    }
+}
+
+#[test]
+fn the_recording_holds_the_sample() {
+    let samples = Path::new(env!("CARGO_MANIFEST_DIR")).join("../samples");
+    let recording = fs::read(samples.join("degree6.blocks")).unwrap();
+    let (degree, cells) = text::cells_of(&fs::read(samples.join("degree6.txt")).unwrap()).unwrap();
+    assert_eq!(degree, Degree::Six);
+    assert!(blocks::written(0x1234, &cells) == recording);
+    assert!(blocks::read(&recording) == Ok((0x1234, cells)));
+}
+
+/// A block, one of its bytes and the value that it takes, and whether the block's sums are then made right.
+type Change = (usize, usize, u8, bool);
+
+/// The refusal of a file with these changes.
+fn refusal_of(mut file: Vec<u8>, changes: &[Change]) -> u64 {
+    for &(number, byte, value, right) in changes {
+        let block = &mut file[512 * number..][..512];
+        block[byte] = value;
+        if right {
+            blocks::make_sums(block);
+        }
+    }
+    blocks::read(&file).map_or_else(|refusal| refusal, |_| 0)
+}
+
+/// The sums of block 0 are 0 and 6 with the number 0xf900.
+#[test]
+fn files_are_refused_by_the_first_test_over_all_blocks() {
+    let good = blocks::written(0xf900, &[0; 4096]);
+    assert_eq!(good[510..512], [0, 6]);
+    for length in [0, 512, 1024, 1535, 1537, 2048] {
+        let mut other = good.clone();
+        other.resize(length, 0);
+        assert_eq!(blocks::read(&other), Err(5));
+    }
+    let table: [(u64, &[Change]); 18] = [
+        (5, &[(0, 0, 1, true), (1, 0, 0, true)]),
+        (5, &[(2, 0, 3, true)]),
+        (5, &[(0, 1, 4, true)]),
+        (5, &[(1, 2, 0, true)]),
+        (5, &[(2, 3, 1, true)]),
+        (6, &[(0, 510, 255, false)]),
+        (6, &[(1, 511, 0, false)]),
+        (6, &[(1, 77, 1, false), (1, 78, 254, false)]),
+        (7, &[(0, 4, 3, true)]),
+        (7, &[(2, 35, 192, true)]),
+        (7, &[(0, 500, 1, true)]),
+        (7, &[(2, 36, 1, true)]),
+        (7, &[(2, 509, 128, true)]),
+        (7, &[(0, 505, 255, false)]),
+        (0, &[(0, 499, 128, true)]),
+        (6, &[(0, 4, 3, true), (2, 510, 0, false)]),
+        (5, &[(0, 510, 1, false), (2, 1, 5, true)]),
+        (5, &[(0, 500, 1, true), (1, 3, 7, true)]),
+    ];
+    for (refusal, changes) in table {
+        assert_eq!(refusal_of(good.clone(), changes), refusal, "{changes:?}");
+    }
+}
+
+#[test]
+fn lengths_of_lent_slices_come_before_the_file() {
+    use super::entries::{read_blocks, write_blocks};
+    let (mut cells, mut report) = (vec![9; 4096], [5]);
+    assert_eq!(read_blocks(&[], &mut cells[1..], &mut report), 3);
+    assert_eq!(read_blocks(&[], &mut cells, &mut [5; 2]), 3);
+    assert_eq!(read_blocks(&[], &mut cells, &mut report), 5);
+    assert!(report == [0] && cells.iter().all(|&cell| cell == 9));
+    let mut file = vec![9; 1536];
+    assert_eq!(write_blocks(1, &[3; 4096], &mut file[1..]), 3);
+    assert_eq!(write_blocks(1, &[3; 4095], &mut file), 3);
+    assert_eq!(write_blocks(1, &[3; 4096], &mut file), 4);
+    assert!(file.iter().all(|&byte| byte == 9));
+    assert_eq!(write_blocks(1, &[2; 4096], &mut file), 0);
+    assert_eq!(read_blocks(&file, &mut cells, &mut report), 0);
+    assert!(report == [1] && cells == [2; 4096]);
 }

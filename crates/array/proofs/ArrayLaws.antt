@@ -119,7 +119,7 @@ lines-are n g k m l h =
 
 -- ---- cells below a bound
 
-take-small : (b n : ℕ) (l : List ℕ) → ((i : ℕ) → cell l i < b) → (i : ℕ) → cell (take n l) i < b
+pub take-small : (b n : ℕ) (l : List ℕ) → ((i : ℕ) → cell l i < b) → (i : ℕ) → cell (take n l) i < b
 take-small b zero l h i = omega (arith, h i)
 take-small b (suc n) [] h i = h i
 take-small b (suc n) (x ∷ l) h zero = h zero

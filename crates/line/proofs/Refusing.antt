@@ -17,7 +17,7 @@ use Rattle.degree.specs.declared.Named.{Named}
 use Rattle.degree.specs.declared.Named.the-variants.{Known, Unknown}
 use Rattle.degree.specs.Degree.{bits, size, named}
 use Rattle.line.specs.declared.refusals.Refusal.{Refusal}
-use Rattle.line.specs.declared.refusals.Refusal.the-variants.{BadDegree, BadIterations, BadLength, BadCell}
+use Rattle.line.specs.declared.refusals.Refusal.the-variants.{BadDegree, BadIterations, BadLength, BadCell, BadFile, BadSum, BadContent}
 use Rattle.line.specs.declared.refusals.Call.{Call}
 use Rattle.line.specs.declared.refusals.Call.the-variants.{Taken, Refused}
 use Rattle.line.specs.Cells.{cell, Cells}
@@ -105,6 +105,9 @@ some-number BadDegree e = omega arith
 some-number BadIterations e = omega arith
 some-number BadLength e = omega arith
 some-number BadCell e = omega arith
+some-number BadFile e = omega arith
+some-number BadSum e = omega arith
+some-number BadContent e = omega arith
 
 -- no test has the number 0
 abbrev pub numbered : List (ℕ × Bool) → Bool

@@ -10,14 +10,17 @@ use Rattle.degree.specs.declared.Named.{Named}
 use Rattle.degree.specs.declared.Named.the-variants.{Known, Unknown}
 use Rattle.degree.specs.Degree.{named}
 use Rattle.line.specs.declared.refusals.Refusal.{Refusal}
-use Rattle.line.specs.declared.refusals.Refusal.the-variants.{BadDegree, BadIterations, BadLength, BadCell}
+use Rattle.line.specs.declared.refusals.Refusal.the-variants.{BadDegree, BadIterations, BadLength, BadCell, BadFile, BadSum, BadContent}
 
--- the numbers of document 01's table
+-- the numbers of document 01's table, and those that document 02 adds to it: 5 to 7 are W-201's
 abbrev pub number : Refusal → ℕ
 number BadDegree = 1
 number BadIterations = 2
 number BadLength = 3
 number BadCell = 4
+number BadFile = 5
+number BadSum = 6
+number BadContent = 7
 
 -- ---- one table for all entries: a test is its number and whether it applies
 

@@ -11,12 +11,15 @@ ghost use Rattle.degree.specs.Degree.{bits};
 ghost use Rattle.line.specs.Refusals.{number, atMost, lineTests, messagesTests};
 ghost use Rattle.line.specs.working.Calls.{Tested};
 
-// Why a call is turned down: document 01's numbers 1 to 4.
+// Why a call is turned down: document 01's numbers 1 to 4, and those that document 02 adds.
 pub enum Refusal {
     BadDegree,
     BadIterations,
     BadLength,
     BadCell,
+    BadFile,
+    BadSum,
+    BadContent,
 }
 
 // A call that was tested.
@@ -25,7 +28,7 @@ pub enum Call {
     Refused(Refusal),
 }
 
-// The refusal number of document 01's table.
+// The refusal number of the table.
 pub fn number_of(why: Refusal) -> u64
     ensures { λ r. ⌜ r ≡ number why ⌝ }
 {
@@ -34,11 +37,14 @@ pub fn number_of(why: Refusal) -> u64
         Refusal::BadIterations => 2,
         Refusal::BadLength => 3,
         Refusal::BadCell => 4,
+        Refusal::BadFile => 5,
+        Refusal::BadSum => 6,
+        Refusal::BadContent => 7,
     }
 }
 
 // Is no cell above the bound?
-fn at_most(bound: u8, cells: &[u8]) -> bool
+pub fn at_most(bound: u8, cells: &[u8]) -> bool
     ensures { λ r. ⌜ r ≡ atMost bound (now (cells .entry)) ⌝ }
 {
     let mut all = true;

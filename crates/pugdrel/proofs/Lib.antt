@@ -3,3 +3,4 @@ mod Handing
 mod ArrayTelling
 mod LineTelling
 mod SheetTelling
+mod FileTelling

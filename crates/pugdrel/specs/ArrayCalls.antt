@@ -11,17 +11,14 @@ use Rattle.line.specs.Refusals.{refusal, given, misfit}
 use Rattle.array.specs.declared.entry.DecodeAnswer.{DecodeAnswer}
 use Rattle.array.specs.Refusals.{rowTests}
 use Rattle.array.specs.Entries.{decodeNumbers, DecodeDone}
-use Rattle.pugdrel.specs.Reports.{told}
+use Rattle.pugdrel.specs.Reports.{told, Told}
 
 -- ---- decode, with l iterations, received array r, filling words w
 
--- the call answers as the entry does, with a report of 3 numbers among the lengths, returns the refusal, and reports the count, the
--- unsure cells and closed
-pub record DecodeTold (degree l : ℕ) (r w before after old new : List ℕ) (number : ℕ) : Type 0 where
-  pub answer : DecodeAnswer
-  pub done : DecodeDone degree l r w before (misfit (length old) 3 ∷ []) after answer
-  pub refusal : number ≡ decodeNumbers answer .0
-  pub report : new ≡ told (decodeNumbers answer .1 ∷ decodeNumbers answer .2 ∷ bit (decodeNumbers answer .3) ∷ []) old
+-- a report of 3 numbers: the count, the unsure cells and closed
+abbrev pub DecodeTold : (degree l : ℕ) (r w before after old new : List ℕ) (number : ℕ) → Type 0
+DecodeTold degree l r w before after =
+    Told DecodeAnswer 3 (λ a. decodeNumbers a .0) (λ a. decodeNumbers a .1 ∷ decodeNumbers a .2 ∷ bit (decodeNumbers a .3) ∷ []) (λ more. DecodeDone degree l r w before more after)
 
 -- ---- the look-up of a row
 

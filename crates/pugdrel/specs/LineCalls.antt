@@ -1,24 +1,14 @@
 -- The calls of one word or line: their promises are those of the entries below with a report among the lengths, for taken and
 -- refused calls alike.
-use mathlib.Core.Path.{_≡_}
 use mathlib.Core.Bool.{Bool}
 use mathlib.Core.List.{List, [], _∷_}
 use Prim.Native.Nat.{ℕ}
-use lib.ListN.{length}
 use Rattle.laws.specs.Bits.{bit}
 use Rattle.line.specs.declared.entry.WordAnswer.{WordAnswer}
 use Rattle.line.specs.declared.entry.LineAnswer.{LineAnswer}
 use Rattle.line.specs.declared.entry.MessagesAnswer.{MessagesAnswer}
-use Rattle.line.specs.Refusals.{misfit}
 use Rattle.line.specs.Entries.{wordNumbers, BoundedDone, lineNumbers, DecodeLineDone, messagesNumbers, MessagesDone}
-use Rattle.pugdrel.specs.Reports.{told}
-
--- the call answers as the entry does, returns the refusal and reports n numbers of the answer
-pub record Told (A : Type 0) (n : ℕ) (refusalOf : A → ℕ) (numbersOf : A → List ℕ) (Done : List Bool → A → Type 0) (old new : List ℕ) (number : ℕ) : Type 0 where
-  pub answer : A
-  pub done : Done (misfit (length old) n ∷ []) answer
-  pub refusal : number ≡ refusalOf answer
-  pub report : new ≡ told (numbersOf answer) old
+use Rattle.pugdrel.specs.Reports.{Told}
 
 -- a word: found, and the cells changed
 abbrev pub BoundedTold : (degree : ℕ) (before after old new : List ℕ) (number : ℕ) → Type 0

@@ -4,4 +4,5 @@ pub mod reports; // the report that a call writes its numbers to
 pub mod arrays; // decode, encode, extract, the look-up of a row
 pub mod lines; // one word or line
 pub mod sheets; // the text form of an array
+pub mod files; // a sheet in blocks
 pub mod versions; // the version of the library

@@ -1,6 +1,6 @@
 mod SwapLaws
 mod CopyLaws
-mod ByteLaws
+pub mod ByteLaws
 mod GatherLaws
 pub mod ZeroLaws
 pub mod PairLaws

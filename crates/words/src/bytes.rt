@@ -13,7 +13,7 @@ fn wide(x: u8) -> u64
 }
 
 // Four bytes as one number, the first the lowest.
-fn four(bytes: &[u8], at: usize) -> u64
+pub fn four(bytes: &[u8], at: usize) -> u64
     requires { ⌜ at + 4 ≤ length (now bytes) ⌝ }
     ensures { λ r. ⌜ (r ≡ joined (take 4 (drop at (now (bytes .entry))))) × (r < 4294967296) ⌝ }
 {
@@ -59,7 +59,7 @@ fn low_byte(x: u64) -> u8
 }
 
 // The four low bytes of a word, the lowest first.
-fn put_four(bytes: &mut [u8], at: usize, x: u64)
+pub fn put_four(bytes: &mut [u8], at: usize, x: u64)
     requires { ⌜ at + 4 ≤ length (now bytes) ⌝ }
     ensures { λ _. ⌜ now (bytes .exit) ≡ sets (now (bytes .entry)) at (bytesOf 4 x) ⌝ }
 {
