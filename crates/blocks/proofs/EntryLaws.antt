@@ -1,7 +1,7 @@
 -- What the reader and the writer promise, from what their parts found and wrote.
 -- Assumes nothing.
 use mathlib.Core.Path.{_≡_, refl, sym, ap, _∙_}
-use mathlib.Core.Bool.{Bool, true, false, not, cond, _||_, or-false}
+use mathlib.Core.Bool.{Bool, true, false, not, cond, _&&_, _||_, or-false}
 use mathlib.Core.List.{List, [], _∷_}
 use Prim.Native.Nat.{ℕ, _<_}
 use lib.Dec.{eqb}
@@ -13,13 +13,31 @@ use Rattle.line.specs.Cells.{Cells}
 use Rattle.line.specs.Refusals.{number, refusal, unlessRefused, misfit, some, atMost}
 use Rattle.line.proofs.Refusing.{cells-small, some-none, fits, some-number, none-applies, unless-taken, unless-refused}
 use Rattle.blocks.specs.declared.entry.ReadAnswer.{ReadAnswer}
-use Rattle.blocks.specs.declared.entry.ReadAnswer.the-variants.{Refused, Read}
+use Rattle.blocks.specs.declared.entry.ReadAnswer.the-variants.{Refused}
 use Rattle.blocks.specs.declared.reading.Found.{Found}
 use Rattle.blocks.specs.Blocks.{fileOf, sheetNumber, sheetIn, isFile}
-use Rattle.blocks.specs.Entries.{readTests, writeTests, ReadDone, WriteDone}
+use Rattle.blocks.specs.Entries.{readTests, writeTests, readNumbers, ReadDone, WriteDone}
 use Rattle.blocks.specs.working.Found.{FileRead}
 use Rattle.blocks.specs.working.Answers.{foundTests, Answers}
 use Rattle.blocks.proofs.FileLaws.{read-back, written-back}
+
+-- ---- the answer by what was found
+
+module _ (found : Found) where
+  abbrev Told : ℕ → ℕ → Type 0
+  Told n s = _≡_ {A = ℕ × ℕ} (n, s) (refusal (foundTests found), unlessRefused (foundTests found) (found .number) 0)
+
+  pub not-formed : not (found .formed) ≡ true → Told 5 0
+  not-formed a = rw a refl
+
+  pub not-summed : not (found .formed) ≡ false → not (found .summed) ≡ true → Told 6 0
+  not-summed a b = rw (a, b) refl
+
+  pub not-sound : not (found .formed) ≡ false → not (found .summed) ≡ false → not (found .sound) ≡ true → Told 7 0
+  not-sound a b c = rw (a, b, c) refl
+
+  pub all-passed : not (found .formed) ≡ false → not (found .summed) ≡ false → not (found .sound) ≡ false → Told 0 (found .number)
+  all-passed a b c = rw (a, b, c) refl
 
 -- ---- a file of the right length, read into as many cells as it should be
 
@@ -29,34 +47,34 @@ module _ (f before sheet : List ℕ) (found : Found) (lf : length f ≡ 1536) (l
   unfolding readTests isFile
   tests-are = rw (eq-eqb (length before) 4096 lb, eq-eqb (length f) 1536 lf, r .formed, r .summed, r .sound) refl
 
-  unless-are : {A : Type 0} (asked refused : A) → unlessRefused (foundTests found) asked refused ≡ unlessRefused (readTests f before []) asked refused
-  unless-are asked refused = ap (λ (n : ℕ). cond (eqb n 0) asked refused) (sym tests-are)
+  -- it is taken where all three are passed
+  unless-found : {A : Type 0} (asked refused : A) → cond ((found .formed && found .summed) && found .sound) asked refused ≡ unlessRefused (readTests f before []) asked refused
+  unless-found asked refused =
+      go (found .formed) (found .summed) (found .sound) asked refused ∙ ap (λ (n : ℕ). cond (eqb n 0) asked refused) (sym tests-are)
+    where
+      go : {A : Type 0} (x y z : Bool) (asked refused : A)
+          → cond ((x && y) && z) asked refused ≡ unlessRefused ((5, not x) ∷ (6, not y) ∷ (7, not z) ∷ []) asked refused
+      go true true true asked refused = refl
+      go true true false asked refused = refl
+      go true false z asked refused = refl
+      go false y z asked refused = refl
 
-  number-told : {n : ℕ} → n ≡ unlessRefused (foundTests found) (found .number) 0 → n ≡ unlessRefused (readTests f before []) (sheetNumber f) 0
-  number-told e = e ∙ unless-are (found .number) 0 ∙ ap (λ (n : ℕ). unlessRefused (readTests f before []) n 0) (r .number)
-
-  pub read-refused : (why : Refusal) → Answers found (Refused why) → ReadDone f before [] before (Refused why)
-  read-refused why a =
-      let e : number why ≡ refusal (readTests f before []) = ap (λ (p : ℕ × ℕ). p .0) a ∙ sym tests-are in
+  pub read-answered : {after : List ℕ} {a : ReadAnswer} → after ≡ cond ((found .formed && found .summed) && found .sound) sheet before → Answers found a
+      → ReadDone f before [] after a
+  read-answered {after} {a} handed told =
+      let number-told : readNumbers a .1 ≡ unlessRefused (readTests f before []) (sheetNumber f) 0 =
+      ap (λ (p : ℕ × ℕ). p .1) told ∙ ap (λ (n : ℕ). cond (eqb n 0) (found .number) 0) (sym tests-are) ∙ ap (λ (n : ℕ). unlessRefused (readTests f before []) n 0) (r .number) in
+      let cells-told : after ≡ unlessRefused (readTests f before []) (sheetIn f) before =
+      handed ∙ unless-found sheet before ∙ ap (λ (l : List ℕ). unlessRefused (readTests f before []) l before) (r .cells) in
       record {
-        refusal = e;
-        number = number-told (ap (λ (p : ℕ × ℕ). p .1) a);
-        cells = sym (unless-refused (readTests f before []) (sheetIn f) before (λ z. some-number why (e ∙ z)));
-        written = λ z. absurd (some-number why z);
-      }
-
-  pub read-taken : {after : List ℕ} (s : ℕ) → after ≡ sheet → Answers found (Read s) → ReadDone f before [] after (Read s)
-  read-taken {after} s copied a =
-      let z : refusal (foundTests found) ≡ 0 = sym (ap (λ (p : ℕ × ℕ). p .0) a) in
-      let e : refusal (readTests f before []) ≡ 0 = tests-are ∙ z in
-      let none = none-applies (foundTests found) tt z in
-      let number-is : s ≡ sheetNumber f = number-told (ap (λ (p : ℕ × ℕ). p .1) a) ∙ unless-taken (readTests f before []) (sheetNumber f) 0 e in
-      record {
-        refusal = sym e;
-        number = number-told (ap (λ (p : ℕ × ℕ). p .1) a);
-        cells = copied ∙ r .cells ∙ sym (unless-taken (readTests f before []) (sheetIn f) before e);
+        refusal = ap (λ (p : ℕ × ℕ). p .0) told ∙ sym tests-are;
+        number = number-told;
+        cells = cells-told;
         written = λ q.
-            rw (number-is, copied ∙ r .cells)
+            let z : refusal (foundTests found) ≡ 0 = sym (ap (λ (p : ℕ × ℕ). p .0) told) ∙ q in
+            let e : refusal (readTests f before []) ≡ 0 = tests-are ∙ z in
+            let none = none-applies (foundTests found) tt z in
+            rw (number-told ∙ unless-taken (readTests f before []) (sheetNumber f) 0 e, cells-told ∙ unless-taken (readTests f before []) (sheetIn f) before e)
             (written-back f lf
             (sym (r .formed) ∙ not-false (found .formed) (none .0))
             (sym (r .summed) ∙ not-false (found .summed) (none .1 .0))

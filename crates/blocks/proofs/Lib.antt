@@ -7,3 +7,4 @@ pub mod Damage
 mod ReadParts
 mod WrittenParts
 mod EntryLaws
+pub mod Examples

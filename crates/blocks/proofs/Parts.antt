@@ -46,4 +46,3 @@ module _ (p q : ℕ) (old one two three : List ℕ) (e1 : length one ≡ p) (e2 
   three-parts =
       let both-long : length (one ++ two) ≡ p + q = length-append one two ∙ omega arith in
       rw (put-behind one old two p e1 q e2) (put-last (one ++ two) old three (p + q) both-long e3)
-

@@ -159,4 +159,3 @@ module _ (f old : List ℕ) (lf : length f ≡ 1536) (lo : length old ≡ 4096) 
     cells = left-is ∙ ap₂ (λ (x y : List ℕ). x ++ y) (ap₂ (λ (x y : List ℕ). x ++ y) (one .cells) (two .cells)) (last .cells);
     bytes = of-three (λ b. Bytes (take 510 (block f b))) (one .bytes) (two .bytes) (last .bytes);
   }
-

@@ -9,6 +9,7 @@ use line::refusals::lent_test;
 use line::refusals::number_of;
 use words::copying::copy_cells;
 ghost use mathlib.Core.Path.{_≡_};
+ghost use mathlib.Core.Bool.{cond};
 ghost use mathlib.Core.List.{[]};
 ghost use lib.ListN.{length};
 ghost use Rattle.blocks.specs.Entries.{ReadDone, WriteDone};
@@ -34,21 +35,26 @@ fn answer_of(found: Found) -> ReadAnswer
     }
 }
 
-// A file of the right length. It is read into cells of our own, and these are handed over where it is not refused.
+// The cells of one slice into another of that length, where the call is taken; else they stay.
+fn hand_over(taken: bool, from: &[u8], to: &mut [u8])
+    requires { ⌜ length (now to) ≡ length (now from) ⌝ }
+    ensures { λ _. ⌜ now (to .exit) ≡ cond taken (now (from .entry)) (now (to .entry)) ⌝ }
+{
+    if taken {
+        copy_cells(from, to);
+    }
+}
+
+// A file of the right length. It is read into cells of our own, and they are handed over where no test applies.
 fn read_long(file: &[u8], cells: &mut [u8]) -> ReadAnswer
     requires { ⌜ (length (now file) ≡ 1536) × (length (now cells) ≡ 4096) ⌝ }
     ensures { λ r. ⌜ ReadDone (now (file .entry)) (now (cells .entry)) [] (now (cells .exit)) r ⌝ }
 {
     let mut sheet = [0u8; 4096];
     let found = read_file(file, &mut sheet);
-    let answer = answer_of(found);
-    match answer {
-        ReadAnswer::Refused(why) => ReadAnswer::Refused(why),
-        ReadAnswer::Read(number) => {
-            copy_cells(&sheet, cells);
-            ReadAnswer::Read(number)
-        }
-    }
+    let taken = found.formed & found.summed & found.sound;
+    hand_over(taken, &sheet, cells);
+    answer_of(found)
 }
 
 // Entry: reads a file into the lent cells, and returns its sheet number, or why it is refused.

@@ -43,7 +43,11 @@ fn read_header(block: usize, bytes: &[u8]) -> Header
     let sums = header_sums(index, degree, high, low);
     let number = high as u16 * 256 + low as u16;
     let formed = (index as usize == block) & (degree == 6);
-    Header { number, formed, sums }
+    Header {
+        number,
+        formed,
+        sums,
+    }
 }
 
 // The bytes of rows, each put apart into four cells.

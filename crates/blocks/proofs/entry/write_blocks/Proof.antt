@@ -13,7 +13,7 @@ enum-told : tie.Need-enum-told
 enum-told c = search needs
 
 write-file-requires : tie.Need-write-file-requires
-write-file-requires c κs = 
+write-file-requires c κs =
     let s = c .before .before .before .before .before .before in
     write-asked (s .args .number) (s .args .cells .now) (s .args .file .now) (rw (c .before .enum-told .given .1) at (c .before .before .before .lent-test .ensures) .0)
 
@@ -27,12 +27,12 @@ same-length : tie.Need-same-length
 same-length c = search needs
 
 returns : tie.Need-returns
-returns c = 
+returns c =
     let s = c .before .before .before .before .before .before .before .before .before in
     write-taken (s .args .number) (s .args .cells .now) (s .args .file .now) (omega arith) (rw (c .before .before .before .before .enum-told .given .1) at (c .before .before .before .before .before .before .lent-test .ensures) .0) (c .before .before .write-file .ensures)
 
 returns-2 : tie.Need-returns-2
-returns-2 c = 
+returns-2 c =
     let s = c .before .before .before .before .before .before .before in
     write-refused (s .args .number) (s .args .cells .now) (s .args .file .now) (c .before .before .call .given .0 .0) (rw (c .before .before .call .given .1) at (c .before .before .before .before .lent-test .ensures)) (c .number-of .ensures)
 

@@ -26,7 +26,7 @@ part-read-rows-end : tie.Need-part-read-rows-end
 part-read-rows-end c = let s = c .before .before .before in omega (arith, s .pre .0, s .pre .1, rows-few (s .args .block))
 
 read-rows-requires : tie.Need-read-rows-requires
-read-rows-requires c κs = 
+read-rows-requires c κs =
     let h = c .before .before .read-header .ensures in
     let s = c .before .before .before .before .before in
     let k = s .args .bytes .now in
@@ -43,7 +43,7 @@ part-read-filler-end : tie.Need-part-read-filler-end
 part-read-filler-end c = search needs
 
 read-filler-requires : tie.Need-read-filler-requires
-read-filler-requires c κs = 
+read-filler-requires c κs =
     let h = c .before .before .before .before .before .before .read-header .ensures in
     let s = c .before .before .before .before .before .before .before .before .before in
     let k = s .args .bytes .now in
@@ -71,7 +71,7 @@ same-length c = search needs
 
 returns : tie.Need-returns
 unfolding sound
-returns c = 
+returns c =
     let h = c .before .before .before .before .before .before .before .before .before .before .before .before .before .before .before .read-header .ensures in
     let s = c .before .before .before .before .before .before .before .before .before .before .before .before .before .before .before .before .before .before in
     let k = s .args .bytes .now in

@@ -18,7 +18,7 @@ slice-aggregate-read-block-2 : tie.Need-slice-aggregate-read-block-2
 slice-aggregate-read-block-2 c = let s = c .before .before .before .before in sym (length-take-le 1984 (s .args .cells .now) (omega (arith, s .pre .1)))
 
 read-block-requires : tie.Need-read-block-requires
-read-block-requires c κs = 
+read-block-requires c κs =
     let s = c .before .before .before .before in
     (length-take-le 512 (s .args .file .now) (omega (arith, s .pre .0)), length-take-le 1984 (s .args .cells .now) (omega (arith, s .pre .1)))
 
@@ -68,12 +68,12 @@ in-all-requires : tie.Need-in-all-requires
 in-all-requires c κs = search needs
 
 same-length : tie.Need-same-length
-same-length c = 
+same-length c =
     let s = c .before .before .before .before .before .before .before .before .before .before .before .before .before .before .before .before .before .before in
     left-long (s .args .file .now) (s .args .cells .now) (s .pre .0) (s .pre .1) (c .before .before .before .before .before .before .before .before .before .before .before .before .before .read-block .ensures) (c .before .before .before .before .before .before .before .before .read-block2 .ensures) (c .before .before .before .read-block3 .ensures)
 
 returns : tie.Need-returns
-returns c = 
+returns c =
     let s = c .before .before .before .before .before .before .before .before .before .before .before .before .before .before .before .before .before .before in
     let all = c .in-all .ensures in
     file-read (s .args .file .now) (s .args .cells .now) (s .pre .0) (s .pre .1) (c .before .before .before .before .before .before .before .before .before .before .before .before .before .read-block .ensures) (c .before .before .before .before .before .before .before .before .read-block2 .ensures) (c .before .before .before .read-block3 .ensures) (all .0) (all .1) (all .2) (all .3)

@@ -34,13 +34,13 @@ loop-less : tie.Need-loop-less Inv-loop μ-loop
 loop-less c = omega arith
 
 loop-again : tie.Need-loop-again Inv-loop μ-loop
-loop-again c = 
+loop-again c =
     let l = c .before .before .before .loop in
     let h = c .before .before .loop-test .taken in
     (summing-next (l .inv .0) _ refl h (c .add-byte .ensures .0) (c .add-byte .ensures .1), and-assoc (l .zero) _ _ ∙ ap (λ b. l .zero && b) (sym (one-more _ _ _ h)) ∙ l .inv .1)
 
 returns : tie.Need-returns Inv-loop μ-loop
-returns c = 
+returns c =
     let l = c .before .loop in
     let e = summing-end (l .inv .0) (c .loop-test .left) in
     (e .0, sym (and-true (l .zero)) ∙ ap (λ b. l .zero && b) (sym (passed-all _ _ _ (c .loop-test .left))) ∙ l .inv .1, e .1)

@@ -23,13 +23,13 @@ header-sums-requires : tie.Need-header-sums-requires
 header-sums-requires c κs = search needs
 
 cast-number : tie.Need-cast-number
-cast-number c = omega (arith, c .header-sums .ensures .1 2)
+cast-number c = omega (arith, c .header-sums .ensures .1 2, c .header-sums .ensures .1 3)
 
 mul-number : tie.Need-mul-number
-mul-number c = omega (arith, c .header-sums .ensures .1 2)
+mul-number c = omega (arith, c .header-sums .ensures .1 2, c .header-sums .ensures .1 3)
 
 cast-number-2 : tie.Need-cast-number-2
-cast-number-2 c = omega (arith, c .header-sums .ensures .1 3)
+cast-number-2 c = omega (arith, c .header-sums .ensures .1 2, c .header-sums .ensures .1 3)
 
 add-number : tie.Need-add-number
 add-number c = omega (arith, c .header-sums .ensures .1 2, c .header-sums .ensures .1 3)
@@ -38,7 +38,7 @@ cast-formed : tie.Need-cast-formed
 cast-formed c = omega (arith, c .header-sums .ensures .1 0)
 
 returns : tie.Need-returns
-returns c = 
+returns c =
     let s = c .before .before .before .before .before .before in
     let four = take-four (s .args .bytes .now) (s .pre) in
     (refl, refl, rw four (c .header-sums .ensures .0), rw four (c .header-sums .ensures .1))

@@ -25,7 +25,7 @@ add-b-3 : tie.Need-add-b-3
 add-b-3 c = search needs
 
 returns : tie.Need-returns
-returns c = 
+returns c =
     let s = c .args in
     (added-four (s .index) (s .degree) (s .high) (s .low), four-small (omega arith) (omega arith) (omega arith) (omega arith))
 

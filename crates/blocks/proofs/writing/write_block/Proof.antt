@@ -55,12 +55,12 @@ part-write-rows-start-2 : tie.Need-part-write-rows-start-2
 part-write-rows-start-2 c = search needs
 
 part-write-rows-end-2 : tie.Need-part-write-rows-end-2
-part-write-rows-end-2 c = 
+part-write-rows-end-2 c =
     let s = c .before .before .before .before .before .before .before .before in
     part-fits (s .args .block) (s .args .number) (c .before .before .before .before .before .rows-in .result) (s .args .cells .now) (s .args .bytes .now) (c .before .before .before .write-header .last .1 .1 .0) (s .pre .0) (omega arith) (s .pre .1) (c .before .before .before .before .before .rows-in .ensures) (s .pre .2) (c .before .before .before .write-header .ensures .0)
 
 write-rows-requires : tie.Need-write-rows-requires
-write-rows-requires c κs = 
+write-rows-requires c κs =
     let s = c .before .before .before .before .before .before .before .before .before in
     rows-asked (s .args .block) (s .args .number) (c .before .before .before .before .before .before .rows-in .result) (s .args .cells .now) (s .args .bytes .now) (c .before .before .before .before .write-header .last .1 .1 .0) (s .pre .0) (omega arith) (s .pre .1) (c .before .before .before .before .before .before .rows-in .ensures) (s .pre .2) (c .before .before .before .before .write-header .ensures .0) (c .before .before .before .before .write-header .ensures .1)
 
@@ -80,7 +80,7 @@ sub-add-zeros : tie.Need-sub-add-zeros
 sub-add-zeros c = let s = c .before .before .before .before .before .before .before .before .before .before .before .before .before .before .before .before in omega (arith, c .before .before .before .before .before .before .before .before .before .before .before .before .before .rows-in .ensures, rows-few (s .args .block))
 
 add-zeros-requires : tie.Need-add-zeros-requires
-add-zeros-requires c κs = 
+add-zeros-requires c κs =
     let s = c .before .before .before .before .before .before .before .before .before .before .before .before .before .before .before .before in
     let w = c .before .before .before .before .before .before .write-rows in
     zeros-room (s .args .block) (s .args .number) (c .before .before .before .before .before .before .before .before .before .before .before .before .before .rows-in .result) (s .args .cells .now) (s .args .bytes .now) (c .before .before .before .before .before .before .before .before .before .before .before .write-header .last .1 .1 .0) (s .pre .0) (omega arith) (s .pre .1) (c .before .before .before .before .before .before .before .before .before .before .before .before .before .rows-in .ensures) (s .pre .2) (c .before .before .before .before .before .before .before .before .before .before .before .write-header .ensures .0) (c .before .before .before .before .before .before .before .before .before .before .before .write-header .ensures .1) (w .last .1 .1 .0) (w .ensures .0) (w .ensures .1)
@@ -101,7 +101,7 @@ same-length : tie.Need-same-length
 same-length c = search needs
 
 returns : tie.Need-returns
-returns c = 
+returns c =
     let s = c .before .before .before .before .before .before .before .before .before .before .before .before .before .before .before .before .before .before .before .before .before in
     let w = c .before .before .before .before .before .before .before .before .before .before .before .write-rows in
     let z = c .before .before .before .before .before .before .before .write-zeros in

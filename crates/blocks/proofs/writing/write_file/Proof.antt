@@ -45,7 +45,7 @@ same-length : tie.Need-same-length
 same-length c = search needs
 
 returns : tie.Need-returns
-returns c = 
+returns c =
     let s = c .before .before .before .before .before .before .before .before .before .before .before .before .before .before in
     file-written (s .args .number) (s .args .cells .now) (s .args .file .now) (s .pre .1) (c .before .before .before .before .before .before .before .before .before .before .write-block .ensures) (c .before .before .before .before .before .before .write-block2 .ensures) (c .before .before .write-block3 .ensures)
 

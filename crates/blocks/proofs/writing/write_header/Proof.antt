@@ -34,7 +34,7 @@ same-length : tie.Need-same-length
 same-length c = search needs
 
 returns : tie.Need-returns
-returns c = 
+returns c =
     let s = c .before .before in
     let e = put-four-bytes (s .args .bytes .now) _ _ _ _ (s .pre .1) in
     (e, rw e (c .header-sums .ensures .0))

@@ -29,7 +29,7 @@ slice-write-bytes : tie.Need-slice-write-bytes Inv-loop μ-loop
 slice-write-bytes c = omega arith
 
 add-byte-requires : tie.Need-add-byte-requires Inv-loop μ-loop
-add-byte-requires c κs = 
+add-byte-requires c κs =
     let l = c .before .before .loop in
     let s = c .before .before .before .before .before in
     let e = length-packed (length (s .args .bytes .now)) (s .args .cells .now) in
@@ -42,7 +42,7 @@ loop-less : tie.Need-loop-less Inv-loop μ-loop
 loop-less c = let l = c .before .before .before .loop in omega (arith, putting-long (l .inv .1), c .before .before .loop-test .taken)
 
 loop-again : tie.Need-loop-again Inv-loop μ-loop
-loop-again c = 
+loop-again c =
     let l = c .before .before .before .loop in
     let s = c .before .before .before .before .before .before in
     let n = length (s .args .bytes .now) in
@@ -55,7 +55,7 @@ same-length : tie.Need-same-length Inv-loop μ-loop
 same-length c = putting-long (c .before .loop .inv .1)
 
 returns : tie.Need-returns Inv-loop μ-loop
-returns c = 
+returns c =
     let l = c .before .loop in
     let s = c .before .before .before .before in
     let all : length (packed (length (s .args .bytes .now)) (s .args .cells .now)) ≤ l .i = omega (arith, length-packed (length (s .args .bytes .now)) (s .args .cells .now), putting-long (l .inv .1), c .loop-test .left) in

@@ -22,7 +22,7 @@ same-length : tie.Need-same-length
 same-length c = search needs
 
 returns : tie.Need-returns
-returns c = 
+returns c =
     let s = c .before .before .before in
     rw (← c .before .reduced .ensures, ← c .reduced2 .ensures) (put-two-bytes (s .args .bytes .now) _ _ (s .pre))
 

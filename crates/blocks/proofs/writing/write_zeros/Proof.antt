@@ -27,7 +27,7 @@ loop-less : tie.Need-loop-less Inv-loop μ-loop
 loop-less c = let l = c .before .loop in omega (arith, putting-long (l .inv), c .loop-test .taken)
 
 loop-again : tie.Need-loop-again Inv-loop μ-loop
-loop-again c = 
+loop-again c =
     let l = c .before .loop in
     let n = length (c .before .before .args .bytes .now) in
     let h : l .i < n = omega (arith, putting-long (l .inv), c .loop-test .taken) in
@@ -37,7 +37,7 @@ same-length : tie.Need-same-length Inv-loop μ-loop
 same-length c = putting-long (c .before .loop .inv)
 
 returns : tie.Need-returns Inv-loop μ-loop
-returns c = 
+returns c =
     let l = c .before .loop in
     putting-end (l .inv) (omega (arith, putting-long (l .inv), length-replicate {A = ℕ} (length (c .before .before .args .bytes .now)) 0, c .loop-test .left))
 

@@ -15,12 +15,12 @@ lent-requires : tie.Need-lent-requires
 lent-requires c κs = search needs
 
 slice-relend-prefix-read-blocks : tie.Need-slice-relend-prefix-read-blocks
-slice-relend-prefix-read-blocks c = 
+slice-relend-prefix-read-blocks c =
     let s = c .before .before .before .before .args in
     lent-le (fits 1 (s .report .now)) (s .cells .now) (c .lent .ensures)
 
 slice-aggregate-read-blocks : tie.Need-slice-aggregate-read-blocks
-slice-aggregate-read-blocks c = 
+slice-aggregate-read-blocks c =
     let s = c .before .before .before .before .before .args in
     lent-length (fits 1 (s .report .now)) (s .cells .now) (c .before .lent .ensures)
 
@@ -46,7 +46,7 @@ same-length-2 : tie.Need-same-length-2
 same-length-2 c = search needs
 
 returns : tie.Need-returns
-returns c = 
+returns c =
     let q = c .before .before .before .before .before .before .before .before .before in
     let h = q .before .before in
     let s = h .before .before .before .before .args in
