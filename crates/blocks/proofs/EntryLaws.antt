@@ -8,9 +8,8 @@ use lib.Dec.{eqb}
 use lib.ListN.{length}
 use borrow.Author.Tests.{eq-eqb, ne-eqb, not-false}
 use Rattle.line.specs.declared.refusals.Refusal.{Refusal}
-use Rattle.line.specs.declared.refusals.Call.{Call}
 use Rattle.line.specs.Cells.{Cells}
-use Rattle.line.specs.Refusals.{number, refusal, unlessRefused, misfit, some, atMost}
+use Rattle.line.specs.Refusals.{number, refusal, unlessRefused, misfit, atMost}
 use Rattle.line.proofs.Refusing.{cells-small, some-none, fits, some-number, none-applies, unless-taken, unless-refused}
 use Rattle.blocks.specs.declared.entry.ReadAnswer.{ReadAnswer}
 use Rattle.blocks.specs.declared.entry.ReadAnswer.the-variants.{Refused}

@@ -2,11 +2,11 @@
 -- fault and with several.
 -- Assumes nothing.
 use mathlib.Core.Path.{_≡_, refl}
-use mathlib.Core.Bool.{Bool, true, cond, _&&_}
+use mathlib.Core.Bool.{Bool, true, _&&_}
 use mathlib.Core.List.{List, [], _∷_, _++_, map}
 use Prim.Native.Nat.{ℕ, _+_, _*_, _/_, _%_}
 use lib.Dec.{T, eqb}
-use lib.ListN.{length, take, replicate, set}
+use lib.ListN.{take, replicate, set}
 use Rattle.line.specs.Cells.{cell}
 use Rattle.line.specs.Refusals.{refusal, atMost}
 use Rattle.blocks.specs.Blocks.{packed, content, fletcher, blockOf, isFile, formed, summed, sound, unpacked}

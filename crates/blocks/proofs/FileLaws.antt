@@ -7,15 +7,16 @@ use mathlib.Core.List.{List, [], _∷_, _++_, append-assoc, append-nil}
 use Prim.Native.Nat.{ℕ, zero, suc, _+_, _-_, _*_, _/_, _%_, _<_, _≤_}
 use native.Mathlib.Omega.{arith}
 use lib.Dec.{eqb, leb}
-use lib.ListN.{length, getD, take, drop, replicate, length-append, length-drop, length-replicate, replicate-append-replicate, take-append-drop, drop-of-length-le}
+use lib.ListN.{length, take, drop, replicate, length-append, length-drop, length-replicate, replicate-append-replicate, take-append-drop, drop-of-length-le}
 use lib.Seq.{take-at, drop-at, getD-at, getD-append-add, getD-take, getD-drop, length-take-le, take-take, take-all, take-add, drop-cons}
-use borrow.Author.Tests.{eqb-true, eq-eqb, leb-true, le-leb}
+use borrow.Author.Tests.{eqb-true, eq-eqb, leb-true, le-leb, not-false}
 use Rattle.laws.specs.Tests.{every}
 use Rattle.laws.proofs.Tests.{and-true, every-true, every-each}
 use Rattle.line.specs.Cells.{cell, Cells}
-use Rattle.line.specs.Refusals.{atMost}
-use Rattle.array.specs.Arrays.{line, lines}
-use Rattle.array.proofs.ArrayLaws.{Even, length-line, length-lines, line-lines, lines-are}
+use Rattle.line.specs.Refusals.{refusal, atMost}
+use Rattle.line.proofs.Refusing.{none-applies}
+use Rattle.array.specs.Arrays.{lines}
+use Rattle.array.proofs.ArrayLaws.{Even, length-line, length-lines, line-lines, lines-are, line-small}
 use Rattle.words.proofs.PairLaws.{bytes-take, bytes-drop}
 use Rattle.blocks.specs.Blocks.{rowsIn, packed, content, sumA, sumB, blockOf, fileOf, block, numberIn, sheetNumber, formed, isFile, summed, rowBytes, filler, unpacked, sound, sheetIn}
 use Rattle.blocks.specs.Entries.{readTests, ReadsBack}
@@ -46,10 +47,10 @@ rows-within = of-three (λ b. 31 * b * 64 + rowsIn b * 64 ≤ 4096) (omega arith
 
 -- ---- cells and bytes within a bound
 
-pub at-most-small : (bound : ℕ) (l : List ℕ) → ((i : ℕ) → cell l i < suc bound) → atMost bound l ≡ true
+pub small-at-most : (bound : ℕ) (l : List ℕ) → ((i : ℕ) → cell l i < suc bound) → atMost bound l ≡ true
 unfolding atMost
-at-most-small bound [] h = refl
-at-most-small bound (c ∷ l) h = ap₂ _&&_ (le-leb c bound (omega (arith, h 0))) (at-most-small bound l (λ i. h (suc i)))
+small-at-most bound [] h = refl
+small-at-most bound (c ∷ l) h = ap₂ _&&_ (le-leb c bound (omega (arith, h 0))) (small-at-most bound l (λ i. h (suc i)))
 
 at-most-zeros : (n : ℕ) → atMost 0 (replicate n 0) ≡ true
 unfolding atMost
@@ -170,7 +171,7 @@ module _ (s : ℕ) (m : List ℕ) (hs : s < 65536) (c : Cells 3 4096 m) where
   unfolding sound
   all-sound = every-true (λ b. sound (block (fileOf s m) b) b) 3 (λ b h.
       rw (block-is b h, block-cells b s m h c, block-filler b s m)
-      (ap₂ _&&_ (at-most-small 2 (take (rowsIn b * 16 * 4) (drop (31 * b * 64) m)) (small-part 3 (rowsIn b * 16 * 4) (31 * b * 64) m (c .small)))
+      (ap₂ _&&_ (small-at-most 2 (take (rowsIn b * 16 * 4) (drop (31 * b * 64) m)) (small-part 3 (rowsIn b * 16 * 4) (31 * b * 64) m (c .small)))
       (ap (atMost 0) (zeros-are b s m) ∙ at-most-zeros (506 - rowsIn b * 16))))
 
   cells-at : (b : ℕ) → b < 3 → unpacked (rowBytes (block (fileOf s m) b) b) ≡ take (rowsIn b * 16 * 4) (drop (31 * b * 64) m)
@@ -281,3 +282,14 @@ module _ (f : List ℕ) (lf : length f ≡ 1536) (ef : every (formed f) 3 ≡ tr
   pub written-back : fileOf (sheetNumber f) (sheetIn f) ≡ f
   unfolding fileOf
   written-back = lines-are 512 (λ b. blockOf b (sheetNumber f) (sheetIn f)) 3 f lf block-back
+
+-- the same of every file that is not refused
+pub file-back : (f cells : List ℕ) (more : List Bool) → Bytes f → refusal (readTests f cells more) ≡ 0 → fileOf (sheetNumber f) (sheetIn f) ≡ f
+unfolding readTests isFile
+file-back f cells more h z =
+    let n = none-applies (readTests f cells more) tt z in
+    let t = and-true (eqb (length f) 1536) (every (formed f) 3) (not-false (isFile f) (n .1 .0)) in
+    written-back f (eqb-true (length f) 1536 (t .0)) (t .1)
+    (not-false (every (λ b. summed (block f b)) 3) (n .1 .1 .0))
+    (not-false (every (λ b. sound (block f b) b) 3) (n .1 .1 .1 .0))
+    (λ b q. bytes-take 510 (block f b) (line-small 256 512 f b h))

@@ -7,7 +7,7 @@ use Prim.Native.Nat.{ℕ}
 use native.Mathlib.Omega.{arith}
 use lib.Dec.{eqb}
 use lib.ListN.{length, take, drop, drop-of-length-le}
-use Rattle.line.specs.Refusals.{refusal, unlessRefused, misfit}
+use Rattle.line.specs.Refusals.{refusal, misfit}
 use Rattle.line.proofs.Refusing.{some-none, none-applies, unless-refused}
 use Rattle.blocks.specs.declared.entry.ReadAnswer.{ReadAnswer}
 use Rattle.blocks.specs.Blocks.{sheetNumber, sheetIn}

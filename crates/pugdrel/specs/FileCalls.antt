@@ -1,6 +1,5 @@
 -- The calls of a sheet in blocks: the reader's promise is that of the entry below with a report among the lengths, for taken and refused
 -- calls alike. The writer has no report, and promises what the entry below does.
-use mathlib.Core.Bool.{Bool}
 use mathlib.Core.List.{List, [], _∷_}
 use Prim.Native.Nat.{ℕ}
 use Rattle.blocks.specs.declared.entry.ReadAnswer.{ReadAnswer}

@@ -1,6 +1,5 @@
 -- The calls of one word or line: their promises are those of the entries below with a report among the lengths, for taken and
 -- refused calls alike.
-use mathlib.Core.Bool.{Bool}
 use mathlib.Core.List.{List, [], _∷_}
 use Prim.Native.Nat.{ℕ}
 use Rattle.laws.specs.Bits.{bit}

@@ -1,8 +1,7 @@
 -- `reading::read_block` meets its contract: header, rows and filler, and the two sums of all of them.
 -- Assumes nothing.
 use native.Mathlib.Omega.{arith}
-use mathlib.Core.Path.{refl, ap₂, sym, _∙_}
-use mathlib.Core.Bool.{_&&_}
+use mathlib.Core.Path.{refl}
 use Rattle.blocks.specs.Blocks.{sound}
 use Rattle.blocks.proofs.FileLaws.{rows-few}
 use Rattle.blocks.proofs.ReadParts.{rows-long, rows-part, filler-part, rows-room, filler-room, block-small, block-tested}

@@ -1,6 +1,5 @@
 -- `writing::write_header` meets its contract: four bytes are put and added.
 -- Assumes nothing.
-use mathlib.Core.Path.{refl, sym, _∙_}
 use Rattle.blocks.proofs.Passing.{put-four-bytes}
 use borrow.Author.Needs.{needs}
 use Rattle.blocks.proofs.writing.write_header.Statement.{statement}

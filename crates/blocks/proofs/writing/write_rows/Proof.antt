@@ -1,7 +1,7 @@
 -- `writing::write_rows` meets its contract. The loop's invariant: the first i bytes are written and added.
 -- Assumes nothing.
 use native.Mathlib.Omega.{arith}
-use mathlib.Core.Path.{_≡_, sym}
+use mathlib.Core.Path.{sym}
 use Prim.Native.Nat.{_-_, _<_, _≤_}
 use lib.ListN.{length}
 use Rattle.blocks.specs.Blocks.{packed}

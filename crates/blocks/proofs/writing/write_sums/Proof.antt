@@ -1,6 +1,5 @@
 -- `writing::write_sums` meets its contract: both are reduced.
 -- Assumes nothing.
-use mathlib.Core.Path.{_∙_}
 use Rattle.blocks.proofs.Passing.{put-two-bytes}
 use borrow.Author.Needs.{needs}
 use Rattle.blocks.proofs.writing.write_sums.Statement.{statement}
