@@ -24,11 +24,14 @@ pub enum ReadAnswer {
 fn answer_of(found: Found) -> ReadAnswer
     ensures { λ r. ⌜ Answers found r ⌝ }
 {
-    if !found.formed {
+    let formed = found.formed;
+    let summed = found.summed;
+    let sound = found.sound;
+    if !formed {
         ReadAnswer::Refused(Refusal::BadFile)
-    } else if !found.summed {
+    } else if !summed {
         ReadAnswer::Refused(Refusal::BadSum)
-    } else if !found.sound {
+    } else if !sound {
         ReadAnswer::Refused(Refusal::BadContent)
     } else {
         ReadAnswer::Read(found.number)
