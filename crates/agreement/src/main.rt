@@ -1,6 +1,7 @@
-// The proved entries compared with the second implementation of document 01, which is the crate `second`, on many lines and arrays
-// made by chance. It prints totals: one disagreement changes them, and so does any change of a result.
+// The proved entries compared with the second implementation of documents 01 and 02, which is the crate `second`, on many lines, arrays and
+// sheets made by chance. It prints totals: one disagreement changes them, and so does any change of a result.
 use array::entry::DecodeAnswer;
+use blocks::entry::ReadAnswer;
 use damage::arrays::ALMOST_CLOSED_KINDS;
 use damage::arrays::KINDS;
 use damage::arrays::ROWS_WITHIN;
@@ -9,6 +10,8 @@ use damage::arrays::make_almost_closed;
 use damage::arrays::make_sent;
 use damage::chance::below;
 use damage::chance::filling_word;
+use damage::files::Sheet;
+use damage::files::any_sheet;
 use damage::lines::ANY_BIT;
 use damage::lines::ANY_CELL;
 use damage::lines::FLIPPED;
@@ -586,6 +589,59 @@ fn test_others(entry: usize, n: usize, many: usize, tally: &mut Totals)
     }
 }
 
+// ---- files: sheets in blocks
+
+type File = [u8; 1536];
+
+// A sheet written by both, into room that holds different bytes. Gives the file of the entry.
+fn test_writing(number: usize, sheet: Sheet, tally: &mut Totals) -> File
+    requires { ⌜ number < 65536 ⌝ }
+{
+    let mut own = [7u8; 1536];
+    let mut given = [9u8; 1536];
+    let first = second::blocks::write_blocks(number as u64, &sheet, &mut own);
+    let other = blocks::entry::write_blocks(number as u16, &sheet, &mut given);
+    let taken = (first == 0) & (other == 0);
+    note(tally, &own, &given, 1536, taken, number as u64);
+    given
+}
+
+// The sheet number, or one that no sheet has where the call was refused.
+fn number_read(answer: ReadAnswer) -> u64 {
+    match answer {
+        ReadAnswer::Refused(_) => 65536,
+        ReadAnswer::Read(number) => number as u64,
+    }
+}
+
+// The file of a sheet, read by both. They agree where both give the sheet and its number.
+fn test_reading(number: u64, sheet: Sheet, file: File, tally: &mut Totals) {
+    let mut own = [7u8; 4096];
+    let mut given = [9u8; 4096];
+    let told = second::blocks::read_blocks(&file, &mut own);
+    let answer = number_read(blocks::entry::read_blocks(&file, &mut given));
+    let read = (told.refusal == 0) & (told.number == number) & same(&own, &sheet);
+    note(
+        tally,
+        &sheet,
+        &given,
+        4096,
+        read & (answer == number),
+        answer,
+    );
+}
+
+// Sheets and numbers by chance.
+fn test_files(many: usize, writing: &mut Totals, reading: &mut Totals) {
+    let mut state: u64 = 123456789;
+    for _ in 0..many {
+        let number = below(&mut state, 65536);
+        let sheet = any_sheet(&mut state);
+        let file = test_writing(number, sheet, writing);
+        test_reading(number as u64, sheet, file, reading);
+    }
+}
+
 // ---- what is printed
 
 // How often each clause was met.
@@ -712,8 +768,25 @@ fn run_degree(degree: u64, lines: usize, arrays: usize) {
     run_array_entries(n, &weights, arrays);
 }
 
+fn run_files(many: usize) {
+    let mut writing = [0u64; 32];
+    let mut reading = [0u64; 32];
+    test_files(many, &mut writing, &mut reading);
+    say(
+        b"write_blocks: # sheets, # agree, # differ, sum #\n",
+        &writing,
+        0,
+    );
+    say(
+        b"read_blocks: # files, # agree, # differ, sum #\n",
+        &reading,
+        0,
+    );
+}
+
 fn main() {
     run_degree(4, 20000, 1530);
     run_degree(6, 3000, 255);
     run_degree(7, 1000, 51);
+    run_files(1000);
 }

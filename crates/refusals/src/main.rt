@@ -1,10 +1,16 @@
 // Calls that are to be turned down, and some that are not: each test of each entry failing alone and together with later ones, which gives
 // the lower number. A refused call leaves every lent cell as it was. It prints totals: one disagreement changes them.
 use array::entry::DecodeAnswer;
+use blocks::entry::ReadAnswer;
 use damage::arrays::KINDS;
 use damage::arrays::damage_array;
 use damage::arrays::make_sent;
 use damage::chance::below;
+use damage::files::FileRoom;
+use damage::files::any_sheet;
+use damage::files::file_of;
+use damage::files::mended;
+use damage::files::spoilt;
 use line::entry::LineAnswer;
 use line::entry::MessagesAnswer;
 use line::entry::WordAnswer;
@@ -32,12 +38,12 @@ use second::tallies::room_of;
 use second::tallies::same;
 use second::tallies::say;
 use second::tallies::tick_if;
-ghost use Prim.Native.Nat.{_≤_, _<_};
+ghost use Prim.Native.Nat.{_+_, _≤_, _<_};
 
 // A call is given by one number, whose digits choose the degree, the iterations, the lengths of up to three slices, the row, and
 // the cell that is spoilt in the first and in the second slice. Digit 0 is always right. How many more values than it each of the eight
 // digits has, the lowest first, for each entry:
-const MORE: [usize; 7] = [
+const MORE: [usize; 9] = [
     0o02022233, // decode: received, filling numbers, cells
     0o02020203, // encode: message, none, cells
     0o02020203, // extract: cells, none, message
@@ -45,10 +51,12 @@ const MORE: [usize; 7] = [
     0o02000203, // bounded distance: word
     0o02000203, // decode line: cells
     0o22022203, // messages: incoming, channel, messages
+    0o00000233, // write blocks, see below
+    0o00033433, // read blocks
 ];
 
 fn digits_of(entry: usize, t: usize) -> [usize; 8]
-    requires { ⌜ entry < 7 ⌝ }
+    requires { ⌜ entry < 9 ⌝ }
 {
     let more = MORE[entry];
     let mut digits = [0usize; 8];
@@ -371,6 +379,154 @@ fn run_lot(lot: usize)
     run_refusals(LINE_MESSAGES, lot, 972, b"calls of line_messages: # calls");
 }
 
+// ---- files: sheets in blocks
+
+const WRITE_BLOCKS: usize = 7;
+
+const READ_BLOCKS: usize = 8;
+
+// The digits of a call choose how many cells it is lent and how many bytes: as many as it should be, one more, one less, or two. Then, of
+// one that writes, the cell that is spoilt; of one that reads, a fault in the first four bytes of a block, one in its sums or in any byte
+// after these were made, and a cell of 3 or filler that is not zero. Digit 0 is always right. These are the faults of the last two digits:
+const AFTER_SUMS: [usize; 4] = [0, 5, 6, 7];
+
+const BEFORE_SUMS: [usize; 4] = [0, 8, 9, 10];
+
+fn length_by(digit: usize, right: usize) -> usize
+    requires { ⌜ (2 ≤ right) × (right ≤ 4096) ⌝ }
+    ensures { λ r. ⌜ r ≤ right + 1 ⌝ }
+{
+    other_length(5 - digit % 4, right)
+}
+
+// What is seen of a call: its refusal number, the sheet number that it tells, and all of the room that the slice to be written lies in.
+struct FileResult {
+    refusal: u64,
+    number: u64,
+    room: Room,
+}
+
+fn own_write(cells: Room, n: usize, long: usize) -> FileResult
+    requires { ⌜ (n ≤ 4097) × (long ≤ 1537) ⌝ }
+{
+    let mut room = [7u8; 16385];
+    let refusal = second::blocks::write_blocks(65535, &cells[..n], &mut room[..long]);
+    FileResult {
+        refusal: refusal,
+        number: 0,
+        room: room,
+    }
+}
+
+fn given_write(cells: Room, n: usize, long: usize) -> FileResult
+    requires { ⌜ (n ≤ 4097) × (long ≤ 1537) ⌝ }
+{
+    let mut room = [7u8; 16385];
+    let refusal = blocks::entry::write_blocks(65535, &cells[..n], &mut room[..long]);
+    FileResult {
+        refusal: refusal,
+        number: 0,
+        room: room,
+    }
+}
+
+fn own_read(file: FileRoom, n: usize, long: usize) -> FileResult
+    requires { ⌜ (n ≤ 4097) × (long ≤ 1537) ⌝ }
+{
+    let mut room = [7u8; 16385];
+    let told = second::blocks::read_blocks(&file[..long], &mut room[..n]);
+    FileResult {
+        refusal: told.refusal,
+        number: told.number,
+        room: room,
+    }
+}
+
+fn given_read(file: FileRoom, n: usize, long: usize) -> FileResult
+    requires { ⌜ (n ≤ 4097) × (long ≤ 1537) ⌝ }
+{
+    let mut room = [7u8; 16385];
+    let answer = blocks::entry::read_blocks(&file[..long], &mut room[..n]);
+    match answer {
+        ReadAnswer::Refused(why) => FileResult {
+            refusal: number_of(why),
+            number: 0,
+            room: room,
+        },
+        ReadAnswer::Read(number) => FileResult {
+            refusal: 0,
+            number: number as u64,
+            room: room,
+        },
+    }
+}
+
+// A refused call of the second implementation leaves its room as it was, which is proved: so does the entry's where the rooms agree. The
+// rooms are longer than any slice in them.
+fn note_files(own: FileResult, given: FileResult, tally: &mut Totals) {
+    let own_room = own.room;
+    let given_room = given.room;
+    let agree = (own.refusal == given.refusal) & (own.number == given.number);
+    note(tally, &own_room, &given_room, 4100, agree, given.number);
+    tick_if(tally, OWN + (given.refusal % 8) as usize, true);
+}
+
+// A sheet of unsure cells, of which the first or the last is spoilt where the digit says so.
+fn test_write(t: usize, tally: &mut Totals) {
+    let digits = digits_of(WRITE_BLOCKS, t);
+    let n = length_by(digits[0], 4096);
+    let long = length_by(digits[1], 1536);
+    let cells = prepared(4096, 2, digits[2], 3);
+    note_files(
+        own_write(cells, n, long),
+        given_write(cells, n, long),
+        tally,
+    );
+}
+
+fn test_file(file: FileRoom, n: usize, long: usize, tally: &mut Totals)
+    requires { ⌜ (n ≤ 4097) × (long ≤ 1537) ⌝ }
+{
+    note_files(own_read(file, n, long), given_read(file, n, long), tally);
+}
+
+// A file of a sheet and a number by chance, with the faults of a call's digits.
+fn faulty_file(digits: [usize; 8], state: &mut u64) -> FileRoom {
+    let number = below(state, 65536) as u64;
+    let whole = file_of(number, any_sheet(state));
+    let off = spoilt(digits[2], state, whole);
+    let other = mended(spoilt(BEFORE_SUMS[digits[4] % 4], state, off));
+    spoilt(AFTER_SUMS[digits[3] % 4], state, other)
+}
+
+fn test_read(t: usize, state: &mut u64, tally: &mut Totals) {
+    let digits = digits_of(READ_BLOCKS, t);
+    let n = length_by(digits[0], 4096);
+    let long = length_by(digits[1], 1536);
+    test_file(faulty_file(digits, state), n, long, tally);
+}
+
+fn test_files(reads: bool, many: usize, tally: &mut Totals) {
+    let mut state: u64 = 1812433253;
+    for t in 0..many {
+        if reads {
+            test_read(t, &mut state, tally);
+        } else {
+            test_write(t, tally);
+        }
+    }
+}
+
+// Sheets of zeros whose number makes a sum of block 0 zero, as they are and with 255 for that sum, which is the same number modulo 255.
+fn test_zero_sum(number: u64, at: usize, tally: &mut Totals)
+    requires { ⌜ at < 1536 ⌝ }
+{
+    let mut file = file_of(number, [0u8; 4096]);
+    test_file(file, 4096, 1536, tally);
+    file[at] = 255;
+    test_file(file, 4096, 1536, tally);
+}
+
 // ---- texts: good inputs of `sheet`, and inputs that are spoilt in each way
 
 // Kinds 0 to 12 are spoilt, 13 to 15 are good.
@@ -427,7 +583,7 @@ fn other_byte(kind: usize, n: usize, p: usize, input: &mut Text)
 // Another length: empty, one byte, the first line alone, a byte less, a byte more.
 fn other_length(kind: usize, long: usize) -> usize
     requires { ⌜ (2 ≤ long) × (long ≤ 16514) ⌝ }
-    ensures { λ r. ⌜ r ≤ 16515 ⌝ }
+    ensures { λ r. ⌜ r ≤ long + 1 ⌝ }
 {
     if kind < 3 {
         kind
@@ -517,6 +673,32 @@ fn run_first_lines() {
     say_totals(b"first lines of sheet: # texts", &tally);
 }
 
+// A line as above, with all refusal numbers.
+fn say_all_totals(beginning: &[u8], tally: &Totals) {
+    say(beginning, tally, 0);
+    say(
+        b", # agree, # differ, sum #; # taken, # refused as 1, # as 2, # as 3, # as 4, # as 5, # as 6, # as 7\n",
+        tally,
+        1,
+    );
+}
+
+fn run_files(reads: bool, many: usize, beginning: &[u8]) {
+    let mut tally = [0u64; 32];
+    test_files(reads, many, &mut tally);
+    say_all_totals(beginning, &tally);
+}
+
+fn run_zero_sums() {
+    let mut tally = [0u64; 32];
+    test_zero_sum(249, 510, &mut tally);
+    test_zero_sum(253, 511, &mut tally);
+    say_all_totals(
+        b"read_blocks with a sum of 0, and with 255 for it: # files",
+        &tally,
+    );
+}
+
 fn main() {
     run_lot(LOWER);
     run_sheets(4, 1530);
@@ -525,4 +707,7 @@ fn main() {
     run_halves();
     run_sheets(7, 51);
     run_first_lines();
+    run_files(false, 48, b"calls of write_blocks: # calls");
+    run_files(true, 5120, b"calls of read_blocks: # calls");
+    run_zero_sums();
 }

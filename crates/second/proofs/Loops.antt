@@ -1,18 +1,20 @@
 -- One turn more of a loop over cells.
 -- Assumes nothing.
-use mathlib.Core.Path.{_≡_, ap}
-use mathlib.Core.Bool.{true, false}
+use mathlib.Core.Path.{_≡_, ap, ap₂, _∙_}
+use mathlib.Core.Bool.{Bool, true, false}
 use mathlib.Core.List.{List}
-use Prim.Native.Nat.{ℕ, _+_, _-_}
+use Prim.Native.Nat.{ℕ, _+_, _-_, _%_}
 use native.Mathlib.Omega.{arith}
 use native.Mathlib.Numerals.{add-one}
 use lib.Bits.{bitXor}
 use lib.ListN.{set}
 use Rattle.laws.specs.Sums.{sumTo}
+use Rattle.laws.specs.Tests.{every}
 use Rattle.second.specs.working.Codes.{timesAlpha, powerOf}
 use Rattle.second.specs.working.Arrays.{takenLine, withLine}
 use Rattle.second.specs.working.Encoding.{coefficientOf, divided, remainderOf, encodedLine, encodedTo}
 use Rattle.second.specs.working.Loops.{written, xored}
+use Rattle.second.specs.working.Blocks.{sumA, sumB, withSums, summed}
 
 -- one number more is written
 pub written-next : (p g : ℕ → ℕ) (k : ℕ) (m : List ℕ) {l : List ℕ} → l ≡ written p g k m → set l (p k) (g k) ≡ written p g (k + 1) m
@@ -44,6 +46,24 @@ remainder-next n line j e = rw (add-one j) (ap (λ (r : ℕ). divided n r (coeff
 pub encoded-next : (n k : ℕ) (m : List ℕ) {l : List ℕ} → l ≡ encodedTo n k m → withLine n k (encodedLine n (takenLine n k l)) l ≡ encodedTo n (k + 1) m
 unfolding encodedTo
 encoded-next n k m e = rw (add-one k) (ap (λ (x : List ℕ). withLine n k (encodedLine n (takenLine n k x)) x) e)
+
+-- one byte more is summed
+pub sum-a-next : (byte : ℕ → ℕ) (k : ℕ) {a : ℕ} → a ≡ sumA byte k → (a + byte k) % 255 ≡ sumA byte (k + 1)
+unfolding sumA
+sum-a-next byte k e = rw (add-one k) (ap (λ (x : ℕ). (x + byte k) % 255) e)
+
+pub sum-b-next : (byte : ℕ → ℕ) (k : ℕ) {a b : ℕ} → a ≡ sumA byte k → b ≡ sumB byte k → (b + (a + byte k) % 255) % 255 ≡ sumB byte (k + 1)
+unfolding sumB
+sum-b-next byte k e f = rw (add-one k) (ap₂ (λ (x y : ℕ). (y + (x + byte k) % 255) % 255) e f)
+
+-- all are tested
+pub tested-all : (f : ℕ → Bool) (k n : ℕ) {x : Bool} → k ≡ n → x ≡ every f k → x ≡ every f n
+tested-all f k n e h = h ∙ ap (every f) e
+
+-- one block more has its sums
+pub summed-next : (k : ℕ) (m : List ℕ) {l : List ℕ} → l ≡ summed k m → withSums k l ≡ summed (k + 1) m
+unfolding summed
+summed-next k m e = rw (add-one k) (ap (withSums k) e)
 
 -- what is found has not failed
 pub found-not : {A : Type 0} → true ≡ false → A

@@ -4,3 +4,4 @@ pub mod Lines
 pub mod Arrays
 pub mod Encoding
 pub mod Tallies
+pub mod Blocks

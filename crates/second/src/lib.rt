@@ -1,6 +1,6 @@
-// A second implementation of document 01, written from its definitions: a word is tried with no cell flipped, with one and with two,
-// a message is one decoding per cell, and a line is encoded by division by the generator polynomial. It shares nothing with the
-// decoder but the cells. `agreement` compares the decoder with it. Beside it: what a comparison notes.
+// A second implementation of documents 01 and 02, written from their definitions: a word is tried with no cell flipped, with one and with
+// two, a message is one decoding per cell, a line is encoded by division by the generator polynomial, and a file is read and written byte
+// by byte. It shares nothing with the decoder but the cells. `agreement` compares the decoder with it. Beside it: what a comparison notes.
 //
 // A code is given by n and the weights of its cells. A line is an array of 128 cells, of which the first n count, and the others are 0; an
 // array of n by n cells is one of 16384, row after row.
@@ -10,4 +10,5 @@ pub mod lines; // line decoding, messages, clauses and their count
 pub mod arrays; // the decoding of an array
 pub mod encoding; // encoding, and taking the message out
 pub mod sheets; // what `sheet` prints
+pub mod blocks; // sheets in blocks of 512 bytes
 pub mod tallies; // comparing, counting, sums of results, and how they are printed

@@ -1,0 +1,17 @@
+-- `own_read` is safe and meets its contract. Assumes nothing.
+use borrow.Author.Needs.{needs}
+use lib.Seq.{length-take-le}
+use mathlib.Core.Path.{sym}
+use Rattle.refusals.proofs.own_read.Statement.{statement}
+use Rattle.refusals.proofs.own_read.Tie as tie
+
+pub own-read-spec : {M : Type 1} → statement M
+own-read-spec =
+    tie.close
+    (tie.spec
+    (λ c. search needs)
+    (λ c. sym (length-take-le _ _ (search needs)))
+    (λ c. search needs)
+    (λ c. sym (length-take-le _ _ (search needs)))
+    (λ c κs. search needs)
+    (λ c. search needs))
