@@ -517,6 +517,16 @@ fn test_files(reads: bool, many: usize, tally: &mut Totals) {
     }
 }
 
+// Calls that read with the right lengths: the two lowest digits, of which each has four values, are 0.
+fn test_fitting(many: usize, tally: &mut Totals)
+    requires { ⌜ many ≤ 65536 ⌝ }
+{
+    let mut state: u64 = 1812433253;
+    for t in 0..many {
+        test_read(16 * t, &mut state, tally);
+    }
+}
+
 // Sheets of zeros whose number makes a sum of block 0 zero, as they are and with 255 for that sum, which is the same number modulo 255.
 fn test_zero_sum(number: u64, at: usize, tally: &mut Totals)
     requires { ⌜ at < 1536 ⌝ }
@@ -689,6 +699,17 @@ fn run_files(reads: bool, many: usize, beginning: &[u8]) {
     say_all_totals(beginning, &tally);
 }
 
+fn run_fitting(many: usize)
+    requires { ⌜ many ≤ 65536 ⌝ }
+{
+    let mut tally = [0u64; 32];
+    test_fitting(many, &mut tally);
+    say_all_totals(
+        b"calls of read_blocks with the right lengths: # calls",
+        &tally,
+    );
+}
+
 fn run_zero_sums() {
     let mut tally = [0u64; 32];
     test_zero_sum(249, 510, &mut tally);
@@ -709,5 +730,6 @@ fn main() {
     run_first_lines();
     run_files(false, 48, b"calls of write_blocks: # calls");
     run_files(true, 5120, b"calls of read_blocks: # calls");
+    run_fitting(5120);
     run_zero_sums();
 }

@@ -1,6 +1,6 @@
 // Sheets in blocks, read and written here anew from document 02. A degree 6 sheet is kept as three blocks of 512 bytes. Byte 0 is the
 // block's number, byte 1 is 6, bytes 2 and 3 are the sheet number; then come 31 rows of 16 bytes, ten bytes of zero, and two sums.
-ghost use Prim.Native.Nat.{_+_, _-_, _*_, _/_, _%_, _≤_, _<_};
+ghost use Prim.Native.Nat.{_%_, _≤_, _<_};
 ghost use mathlib.Core.Path.{_≡_};
 ghost use lib.ListN.{length};
 ghost use Rattle.second.specs.working.Loops.{written};
@@ -67,7 +67,7 @@ fn row_byte(cells: &[u8], row: usize, q: usize) -> u8
     }
 }
 
-// Byte p of a block, below 510: "Bytes 500 to 509 are zero."
+// Byte p of a block: "Bytes 500 to 509 are zero." Here its sums are 0 too.
 fn block_byte(number: u64, cells: &[u8], block: usize, p: usize) -> u8
     requires { ⌜ (block < 3) × (p < 512) × (length (now cells) ≡ 4096) ⌝ }
     ensures { λ r. ⌜ r ≡ blockByte number (now (cells .entry)) block p ⌝ }
@@ -81,7 +81,7 @@ fn block_byte(number: u64, cells: &[u8], block: usize, p: usize) -> u8
     }
 }
 
-// All bytes of a file; the sums are 0 so far.
+// All bytes of a file but the sums.
 fn put_bytes(number: u64, cells: &[u8], file: &mut [u8])
     requires { ⌜ (length (now cells) ≡ 4096) × (1536 ≤ length (now file)) ⌝ }
     ensures { λ _. ⌜ now (file .exit) ≡ withBytes number (now (cells .entry)) (now (file .entry)) ⌝ }
@@ -200,9 +200,9 @@ fn sums_right(block: usize, file: &[u8]) -> bool
     ensures { λ r. ⌜ r ≡ sumsRight (now (file .entry)) block ⌝ }
 {
     let sums = sums_of(block, file);
-    let first = wide(file[512 * block + 510]);
-    let second = wide(file[512 * block + 511]);
-    (first == sums.a) & (second == sums.b)
+    let a = wide(file[512 * block + 510]);
+    let b = wide(file[512 * block + 511]);
+    (a == sums.a) & (b == sums.b)
 }
 
 fn all_sums_right(file: &[u8]) -> bool

@@ -24,7 +24,7 @@ packed cells i = getD cells i 0 % 4 + 4 * (getD cells (i + 1) 0 % 4) + 16 * (get
 abbrev pub rowByte : (cells : List ℕ) (row q : ℕ) → ℕ
 rowByte cells row q = cond (ltb row 64) (packed cells (64 * row + 4 * q)) 0
 
--- byte p of a block, below 510
+-- byte p of a block; its sums are 0 here
 abbrev pub blockByte : (number : ℕ) (cells : List ℕ) (block p : ℕ) → ℕ
 blockByte number cells block p =
     cond (ltb p 4) (headByte number block p) (cond (ltb p 500) (rowByte cells (rowOf block p) ((p - 4) % 16)) 0)
@@ -37,7 +37,7 @@ withBytes number cells file = written (λ at. at) (λ at. blockByte number cells
 abbrev pub byteIn : (file : List ℕ) (block p : ℕ) → ℕ
 byteIn file block p = getD file (512 * block + p) 0
 
--- the sums A and B modulo 255 of k bytes: each byte is added to A, then A to B
+-- the sums A and B modulo 255 of k bytes: each byte is added to A, then A, with that byte, to B
 unfoldable pub sumA : (byte : ℕ → ℕ) → ℕ → ℕ
 sumA byte zero = 0
 sumA byte (suc k) = (sumA byte k + byte k) % 255

@@ -24,7 +24,7 @@ loop-again : tie.Need-loop-again Inv-loop μ-loop
 loop-again c =
     let turn = c .before .before .loop in
     let s = c .before .before .before .args in
-    (search needs, cc (written-next (placeOf (s .n) (s .i)) (λ k. getD (s .t3) k 0) (turn .j) (s .cells .now) (turn .inv .1)))
+    (search needs, rw (c .place .ensures .0) (written-next (placeOf (s .n) (s .i)) (λ k. getD (s .t3) k 0) (turn .j) (s .cells .now) (turn .inv .1)))
 
 returns : tie.Need-returns Inv-loop μ-loop
 unfolding withLine

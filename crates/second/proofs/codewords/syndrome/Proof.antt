@@ -25,7 +25,7 @@ loop-again : tie.Need-loop-again Inv-loop μ-loop
 loop-again c =
     let turn = c .before .before .before .loop in
     let s = c .before .before .before .before .args in
-    (search needs, cc (xored-next (λ k. cond (eqb (getD (s .t3) k 0) 1) (getD (s .weights .now) k 0) 0) (turn .i) (turn .inv .1)))
+    (search needs, rw (c .added .ensures) (xored-next (λ k. cond (eqb (getD (s .t3) k 0) 1) (getD (s .weights .now) k 0) 0) (turn .i) (turn .inv .1)))
 
 returns : tie.Need-returns Inv-loop μ-loop
 returns c = let all : c .before .loop .i ≡ c .before .before .args .n = omega arith in cc

@@ -23,7 +23,7 @@ loop-holds c = (search needs, refl)
 loop-again : tie.Need-loop-again Inv-loop μ-loop
 loop-again c =
     let turn = c .before .before .before .loop in
-    (search needs, cc (written-next (λ k. k) (weightOf (c .before .before .before .before .args .n)) (turn .i) (replicate 128 0) (turn .inv .1)))
+    (search needs, rw (c .power2 .ensures .0, c .before .power .ensures .0) (written-next (λ k. k) (weightOf (c .before .before .before .before .args .n)) (turn .i) (replicate 128 0) (turn .inv .1)))
 
 returns : tie.Need-returns Inv-loop μ-loop
 returns c = let all : c .before .loop .i ≡ c .before .before .args .n - 1 = omega arith in cc

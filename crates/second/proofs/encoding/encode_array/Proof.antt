@@ -22,7 +22,7 @@ loop-again : tie.Need-loop-again Inv-loop μ-loop
 loop-again c =
     let turn = c .before .before .before .before .before .before .loop in
     let s = c .before .before .before .before .before .before .before .args in
-    (search needs, cc (encoded-next (s .n) (turn .i) (s .cells .now) (turn .inv .1)))
+    (search needs, rw (c .put-line .ensures, c .before .before .encode-line .ensures, c .before .before .before .take-line .ensures) (encoded-next (s .n) (turn .i) (s .cells .now) (turn .inv .1)))
 
 returns : tie.Need-returns Inv-loop μ-loop
 returns c =

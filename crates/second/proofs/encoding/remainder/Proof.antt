@@ -23,7 +23,7 @@ loop-again : tie.Need-loop-again Inv-loop μ-loop
 loop-again c =
     let turn = c .before .before .before .loop in
     let s = c .before .before .before .before .args in
-    (search needs, cc (remainder-next (s .n) (s .line) (turn .j) (turn .inv .1)), search needs)
+    (search needs, rw (c .divide .ensures .0, c .before .coefficient .ensures .0) (remainder-next (s .n) (s .line) (turn .j) (turn .inv .1)), search needs)
 
 returns : tie.Need-returns Inv-loop μ-loop
 returns c = let all : c .before .loop .j ≡ c .before .before .args .n - 1 = omega arith in (cc, search needs)

@@ -23,7 +23,7 @@ loop-holds c = (search needs, refl, search needs)
 loop-again : tie.Need-loop-again Inv-loop μ-loop
 loop-again c =
     let turn = c .before .before .before .loop in
-    (search needs, cc (sum-next (isLike 35 (c .before .before .before .before .before .args .line .now)) (turn .i) (turn .inv .1)), search needs)
+    (search needs, rw (c .say-byte .ensures .0) (sum-next (isLike 35 (c .before .before .before .before .before .args .line .now)) (turn .i) (turn .inv .1)), search needs)
 
 returns : tie.Need-returns Inv-loop μ-loop
 returns c = let all : c .before .loop .i ≡ length (c .before .before .before .args .line .now) = omega arith in cc
