@@ -64,6 +64,21 @@ all-zeros (c ∷ l) e =
     let h = and-true (leb c 0) (atMost 0 l) e in
     ap₂ {C = List ℕ} (λ x xs. x ∷ xs) (omega (arith, leb-true c 0 (h .0))) (all-zeros l (h .1))
 
+-- ---- the parts of a block of 512 bytes
+
+module _ (b : ℕ) (k : List ℕ) where
+  pub rows-long : length k ≡ 512 → length (rowBytes k b) ≡ rowsIn b * 16
+  rows-long l = length-take-le (rowsIn b * 16) (drop 4 k) (rw (length-drop 4 k) (omega (arith, rows-few b)))
+
+  pub filler-long : length k ≡ 512 → length (filler k b) ≡ 506 - rowsIn b * 16
+  filler-long l = rw (length-drop (4 + rowsIn b * 16) (take 510 k), length-take-le 510 k (omega arith)) (omega arith)
+
+  pub parts-whole : take 4 k ++ (rowBytes k b ++ filler k b) ≡ take 510 k
+  parts-whole =
+      sym (append-assoc (take 4 k) (rowBytes k b) (filler k b))
+      ∙ ap (λ (r : List ℕ). r ++ filler k b) (sym (take-add 4 (rowsIn b * 16) k) ∙ sym (take-take (4 + rowsIn b * 16) 510 k (omega (arith, rows-few b))))
+      ∙ take-append-drop (4 + rowsIn b * 16) (take 510 k)
+
 -- ---- a block that is written
 
 module _ (b s : ℕ) (m : List ℕ) where
@@ -205,11 +220,7 @@ block-split k l =
 
 -- bytes 0 to 509 by their parts
 content-split : (b : ℕ) (k : List ℕ) → length k ≡ 512 → cell k 0 ∷ cell k 1 ∷ cell k 2 ∷ cell k 3 ∷ (rowBytes k b ++ filler k b) ≡ take 510 k
-content-split b k l =
-    ap (λ (r : List ℕ). r ++ (rowBytes k b ++ filler k b)) (sym (take-four k (omega arith)))
-    ∙ sym (append-assoc (take 4 k) (rowBytes k b) (filler k b))
-    ∙ ap (λ (r : List ℕ). r ++ filler k b) (sym (take-add 4 (rowsIn b * 16) k) ∙ sym (take-take (4 + rowsIn b * 16) 510 k (omega (arith, rows-few b))))
-    ∙ take-append-drop (4 + rowsIn b * 16) (take 510 k)
+content-split b k l = ap (λ (r : List ℕ). r ++ (rowBytes k b ++ filler k b)) (sym (take-four k (omega arith))) ∙ parts-whole b k
 
 prefixed : {a b c e a′ b′ c′ e′ : ℕ} {l l′ : List ℕ} → a ≡ a′ → b ≡ b′ → c ≡ c′ → e ≡ e′ → l ≡ l′ → a ∷ b ∷ c ∷ e ∷ l ≡ a′ ∷ b′ ∷ c′ ∷ e′ ∷ l′
 prefixed p q r s t =
@@ -223,14 +234,11 @@ module _ (f : List ℕ) (lf : length f ≡ 1536) (ef : every (formed f) 3 ≡ tr
   long : (b : ℕ) → b < 3 → length (block f b) ≡ 512
   long b h = length-line 3 512 f b h lf
 
-  rows-length-of : (b : ℕ) → b < 3 → length (rowBytes (block f b) b) ≡ rowsIn b * 16
-  rows-length-of b h = length-take-le (rowsIn b * 16) (drop 4 (block f b)) (rw (length-drop 4 (block f b)) (omega (arith, long b h, rows-few b)))
-
   abbrev cells-of : ℕ → List ℕ
   cells-of b = unpacked (rowBytes (block f b) b)
 
   cells-length-of : (b : ℕ) → b < 3 → length (cells-of b) ≡ rowsIn b * 64
-  cells-length-of b h = length-unpacked (rowBytes (block f b) b) ∙ omega (arith, rows-length-of b h)
+  cells-length-of b h = length-unpacked (rowBytes (block f b) b) ∙ omega (arith, rows-long b (block f b) (long b h))
 
   -- the cells from those of block b on
   rest : ℕ → List ℕ
@@ -248,7 +256,7 @@ module _ (f : List ℕ) (lf : length f ≡ 1536) (ef : every (formed f) 3 ≡ tr
   rows-back b h =
       let k = block f b in
       let bytes : Bytes (rowBytes k b) = rw (take-drop-less k) at (bytes-take (rowsIn b * 16) (drop 4 (take 510 k)) (bytes-drop 4 (take 510 k) (small b h))) in
-      ap₂ packed (sym (rows-length-of b h)) (from-block b h) ∙ packed-unpacked (rowBytes k b) (rest b) bytes
+      ap₂ packed (sym (rows-long b (block f b) (long b h))) (from-block b h) ∙ packed-unpacked (rowBytes k b) (rest b) bytes
     where
       take-drop-less : (k : List ℕ) → take (rowsIn b * 16) (drop 4 (take 510 k)) ≡ take (rowsIn b * 16) (drop 4 k)
       take-drop-less k = ap (take (rowsIn b * 16)) (drop-take 4 506 k) ∙ take-take (rowsIn b * 16) 506 (drop 4 k) (omega (arith, rows-few b))
@@ -258,8 +266,7 @@ module _ (f : List ℕ) (lf : length f ≡ 1536) (ef : every (formed f) 3 ≡ tr
   filler-back b h =
       let k = block f b in
       let z = and-true (atMost 2 (unpacked (rowBytes k b))) (atMost 0 (filler k b)) (every-each (λ b. sound (block f b) b) 3 eo b h) .1 in
-      let n : length (filler k b) ≡ 506 - rowsIn b * 16 = rw (length-drop (4 + rowsIn b * 16) (take 510 k), length-take-le 510 k (omega (arith, long b h))) (omega arith) in
-      zeros-are b (sheetNumber f) (sheetIn f) ∙ ap (λ (n : ℕ). replicate n 0) (sym n) ∙ sym (all-zeros (filler k b) z)
+      zeros-are b (sheetNumber f) (sheetIn f) ∙ ap (λ (n : ℕ). replicate n 0) (sym (filler-long b k (long b h))) ∙ sym (all-zeros (filler k b) z)
 
   block-back : (b : ℕ) → b < 3 → blockOf b (sheetNumber f) (sheetIn f) ≡ block f b
   unfolding blockOf content formed summed

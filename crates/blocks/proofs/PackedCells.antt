@@ -45,17 +45,6 @@ unpacked-append (x ∷ xs) ys =
 pub unpacked-next : (xs : List ℕ) (i : ℕ) → i < length xs → unpacked (take (i + 1) xs) ≡ unpacked (take i xs) ++ unpacked (getD xs i 0 ∷ [])
 unpacked-next xs i h = rw (add-one i, take-suc xs i 0 h) (unpacked-append (take i xs) (getD xs i 0 ∷ []))
 
-packed-more : (i : ℕ) (m : List ℕ) → packed (suc i) m ≡ packed i m ++ packed 1 (drop (4 * i) m)
-unfolding packed
-packed-more zero m = refl
-packed-more (suc i) m =
-    let e : 4 + 4 * i ≡ 4 * suc i = omega arith in
-    ap {B = List ℕ} (λ r. (getD m 0 0 + 4 * getD m 1 0 + 16 * getD m 2 0 + 64 * getD m 3 0) ∷ r)
-    (packed-more i (drop 4 m) ∙ ap (λ (r : List ℕ). packed i (drop 4 m) ++ packed 1 r) (drop-drop (4 * i) 4 m ∙ ap (λ (k : ℕ). drop k m) e))
-
-pub packed-next : (i : ℕ) (m : List ℕ) → packed (i + 1) m ≡ packed i m ++ packed 1 (drop (4 * i) m)
-packed-next i m = rw (add-one i) (packed-more i m)
-
 -- ---- there and back
 
 -- a byte from its four pairs of bits

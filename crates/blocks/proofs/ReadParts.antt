@@ -20,7 +20,7 @@ use Rattle.blocks.specs.working.Found.{BlockRead, FileRead}
 use Rattle.blocks.proofs.AddingLaws.{added-append, room-start, room-fewer, room-added, sums-reduced}
 use Rattle.blocks.proofs.PackedCells.{length-unpacked}
 use Rattle.blocks.proofs.Parts.{drop-take, three-parts}
-use Rattle.blocks.proofs.FileLaws.{of-three, rows-few}
+use Rattle.blocks.proofs.FileLaws.{of-three, rows-few, rows-long, filler-long, parts-whole}
 
 bytes-append : (xs ys : List ℕ) → Bytes xs → Bytes ys → Bytes (xs ++ ys)
 bytes-append [] ys h g i = g i
@@ -30,20 +30,6 @@ bytes-append (x ∷ xs) ys h g (suc i) = bytes-append xs ys (λ j. h (suc j)) g 
 -- ---- a block
 
 module _ (b : ℕ) (k : List ℕ) (long : length k ≡ 512) where
-  pub rows-long : length (rowBytes k b) ≡ rowsIn b * 16
-  rows-long = length-take-le (rowsIn b * 16) (drop 4 k) (rw (length-drop 4 k) (omega (arith, rows-few b)))
-
-  pub filler-long : length (filler k b) ≡ 506 - rowsIn b * 16
-  filler-long = rw (length-drop (4 + rowsIn b * 16) (take 510 k), length-take-le 510 k (omega arith)) (omega arith)
-
-  pub parts-whole : take 4 k ++ (rowBytes k b ++ filler k b) ≡ take 510 k
-  parts-whole =
-      let front : take 4 k ++ rowBytes k b ≡ take (4 + rowsIn b * 16) (take 510 k) =
-      sym (take-add 4 (rowsIn b * 16) k) ∙ sym (take-take (4 + rowsIn b * 16) 510 k (omega (arith, rows-few b))) in
-      sym (append-assoc (take 4 k) (rowBytes k b) (filler k b))
-      ∙ ap (λ (l : List ℕ). l ++ filler k b) front
-      ∙ take-append-drop (4 + rowsIn b * 16) (take 510 k)
-
   -- the parts as they are lent, where x cells take the rows
   module _ {x : ℕ} (e : x ≡ rowsIn b * 64) where
     pub rows-part : take (4 + x / 4 - 4) (drop 4 k) ≡ rowBytes k b
@@ -61,14 +47,14 @@ module _ (b : ℕ) (k : List ℕ) (long : length k ≡ 512) where
     header-room = rw eh (room-added 506 (0, 0) (take 4 k) sh (room-fewer (length (take 4 k) + 506) 510 (0, 0) (omega (arith, length-take-le 4 k (omega arith))) room-start))
 
     pub rows-room : Room (length (rowBytes k b)) h
-    rows-room = room-fewer (length (rowBytes k b)) 506 h (omega (arith, rows-long, rows-few b)) header-room
+    rows-room = room-fewer (length (rowBytes k b)) 506 h (omega (arith, rows-long b k long, rows-few b)) header-room
 
     module _ {s : ℕ × ℕ} (es : s ≡ added h (rowBytes k b)) (sr : Bytes (rowBytes k b)) where
       pub filler-room : Room (length (filler k b)) s
       filler-room =
           rw es
           (room-added (length (filler k b)) h (rowBytes k b) sr
-          (room-fewer (length (rowBytes k b) + length (filler k b)) 506 h (omega (arith, rows-long, filler-long, rows-few b)) header-room))
+          (room-fewer (length (rowBytes k b) + length (filler k b)) 506 h (omega (arith, rows-long b k long, filler-long b k long, rows-few b)) header-room))
 
       module _ {t : ℕ × ℕ} (et : t ≡ added s (filler k b)) (sf : Bytes (filler k b)) where
         pub block-sums : t ≡ added (0, 0) (take 510 k)
@@ -78,11 +64,11 @@ module _ (b : ℕ) (k : List ℕ) (long : length k ≡ 512) where
             ∙ sym (added-append h (rowBytes k b) (filler k b))
             ∙ ap (λ (u : ℕ × ℕ). added u (rowBytes k b ++ filler k b)) eh
             ∙ sym (added-append (0, 0) (take 4 k) (rowBytes k b ++ filler k b))
-            ∙ ap (added (0, 0)) parts-whole
+            ∙ ap (added (0, 0)) (parts-whole b k)
 
         pub block-small : Bytes (take 510 k)
         block-small =
-            rw parts-whole at (bytes-append (take 4 k) (rowBytes k b ++ filler k b) sh (bytes-append (rowBytes k b) (filler k b) sr sf))
+            rw (parts-whole b k) at (bytes-append (take 4 k) (rowBytes k b ++ filler k b) sh (bytes-append (rowBytes k b) (filler k b) sr sf))
 
         pub block-tested : (eqb (cell k 510) (t .0 % 255) && eqb (cell k 511) (t .1 % 255)) ≡ summed k
         unfolding summed

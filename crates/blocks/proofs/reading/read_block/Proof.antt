@@ -3,8 +3,8 @@
 use native.Mathlib.Omega.{arith}
 use mathlib.Core.Path.{refl}
 use Rattle.blocks.specs.Blocks.{sound}
-use Rattle.blocks.proofs.FileLaws.{rows-few}
-use Rattle.blocks.proofs.ReadParts.{rows-long, rows-part, filler-part, rows-room, filler-room, block-small, block-tested}
+use Rattle.blocks.proofs.FileLaws.{rows-few, rows-long}
+use Rattle.blocks.proofs.ReadParts.{rows-part, filler-part, rows-room, filler-room, block-small, block-tested}
 use borrow.Author.Needs.{needs}
 use Rattle.blocks.proofs.reading.read_block.Statement.{statement}
 use Rattle.blocks.proofs.reading.read_block.Tie as tie
