@@ -64,7 +64,7 @@ fn write_rows(n: usize, k: usize, units: &UnitTable, words: &Grid, cells: &mut [
 }
 
 // The array of a message: its rows are encoded, and the rows of the array are sums of them, both by the table of units.
-fn encode_array(d: Degree, message: &[u8], cells: &mut [u8])
+pub fn encode_array(d: Degree, message: &[u8], cells: &mut [u8])
     requires { ⌜ IsWord (messageSize d * messageSize d) (now message) × (length (now cells) ≡ size d * size d) ⌝ }
     ensures { λ _. ⌜ now (cells .exit) ≡ encodeArray d (now (message .entry)) ⌝ }
 {

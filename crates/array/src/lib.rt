@@ -2,7 +2,7 @@
 pub mod encoding; // encode
 pub mod extraction; // extract
 pub mod rows; // the look-up of a row
-mod refusals; // the tests of the calls
+pub mod refusals; // the tests of the calls
 mod packing; // the rows of an array, packed in words
 mod halves; // the row half and the column half
 mod iterations; // the iterations of a decoding

@@ -17,7 +17,7 @@ use Rattle.degree.specs.declared.Named.{Named}
 use Rattle.degree.specs.declared.Named.the-variants.{Known, Unknown}
 use Rattle.degree.specs.Degree.{bits, size, named}
 use Rattle.line.specs.declared.refusals.Refusal.{Refusal}
-use Rattle.line.specs.declared.refusals.Refusal.the-variants.{BadDegree, BadIterations, BadLength, BadCell, BadFile, BadSum, BadContent}
+use Rattle.line.specs.declared.refusals.Refusal.the-variants.{BadDegree, BadIterations, BadLength, BadCell, BadFile, BadSum, BadContent, BadSeed, TooMany}
 use Rattle.line.specs.declared.refusals.Call.{Call}
 use Rattle.line.specs.declared.refusals.Call.the-variants.{Taken, Refused}
 use Rattle.line.specs.Cells.{cell, Cells}
@@ -108,6 +108,8 @@ some-number BadCell e = omega arith
 some-number BadFile e = omega arith
 some-number BadSum e = omega arith
 some-number BadContent e = omega arith
+some-number BadSeed e = omega arith
+some-number TooMany e = omega arith
 
 -- no test has the number 0
 abbrev pub numbered : List (ℕ × Bool) → Bool
@@ -132,6 +134,13 @@ pub refusal-more : (ts us : List (ℕ × Bool)) → (refusal ts ≡ 0 → ⊥) �
 refusal-more [] us h = absurd (h refl)
 refusal-more ((k, true) ∷ ts) us h = refl
 refusal-more ((k, false) ∷ ts) us h = refusal-more ts us h
+
+-- and say all where none applies
+pub refusal-rest : (ts us : List (ℕ × Bool)) → T (numbered ts) → refusal ts ≡ 0 → refusal (ts ++ us) ≡ refusal us
+refusal-rest [] us n e = refl
+refusal-rest ((zero, b) ∷ ts) us n e = absurd n
+refusal-rest ((suc k, true) ∷ ts) us n e = absurd (omega arith)
+refusal-rest ((suc k, false) ∷ ts) us n e = refusal-rest ts us n e
 
 -- ---- what a call gives
 
@@ -228,6 +237,4 @@ module _ (d : Degree) (incoming channel messages : List ℕ) {n : ℕ} (e : n �
 
   pub messages-last : (r : Call) → refusal Before ≡ 0 → Tested (bits d) Last r → Tested (bits d) (messagesTests (bits d) incoming channel messages []) r
   messages-last r z h =
-      let n = none-applies Before tt z in
-      tested-known (bits d) d Last (messagesTests (bits d) incoming channel messages []) r (bits-named d)
-      (let same : refusal Last ≡ refusal (Before ++ Last) = rw (n .0, n .1 .0) in same ∙ messages-tests) h
+      tested-known (bits d) d Last (messagesTests (bits d) incoming channel messages []) r (bits-named d) (sym (refusal-rest Before Last tt z) ∙ messages-tests) h

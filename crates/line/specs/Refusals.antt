@@ -10,9 +10,9 @@ use Rattle.degree.specs.declared.Named.{Named}
 use Rattle.degree.specs.declared.Named.the-variants.{Known, Unknown}
 use Rattle.degree.specs.Degree.{named}
 use Rattle.line.specs.declared.refusals.Refusal.{Refusal}
-use Rattle.line.specs.declared.refusals.Refusal.the-variants.{BadDegree, BadIterations, BadLength, BadCell, BadFile, BadSum, BadContent}
+use Rattle.line.specs.declared.refusals.Refusal.the-variants.{BadDegree, BadIterations, BadLength, BadCell, BadFile, BadSum, BadContent, BadSeed, TooMany}
 
--- the numbers of document 01's table, and those that document 02 adds to it: 5 to 7 are W-201's
+-- the numbers of document 01's table, and those that document 02 adds to it: 5 to 7 are W-201's, 8 and 9 W-204's
 abbrev pub number : Refusal → ℕ
 number BadDegree = 1
 number BadIterations = 2
@@ -21,6 +21,8 @@ number BadCell = 4
 number BadFile = 5
 number BadSum = 6
 number BadContent = 7
+number BadSeed = 8
+number TooMany = 9
 
 -- ---- one table for all entries: a test is its number and whether it applies
 

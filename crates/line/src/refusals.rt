@@ -20,6 +20,8 @@ pub enum Refusal {
     BadFile,
     BadSum,
     BadContent,
+    BadSeed,
+    TooMany,
 }
 
 // A call that was tested.
@@ -40,6 +42,8 @@ pub fn number_of(why: Refusal) -> u64
         Refusal::BadFile => 5,
         Refusal::BadSum => 6,
         Refusal::BadContent => 7,
+        Refusal::BadSeed => 8,
+        Refusal::TooMany => 9,
     }
 }
 

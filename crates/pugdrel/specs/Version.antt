@@ -1,5 +1,5 @@
--- The version of the calls: a million times the first number, a thousand times the second, and the third. It is 3.1.0.
+-- The version of the calls: a million times the first number, a thousand times the second, and the third. It is 3.2.0.
 use Prim.Native.Nat.{ℕ}
 
 abbrev pub version : ℕ
-version = 3001000
+version = 3002000

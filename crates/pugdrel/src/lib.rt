@@ -5,4 +5,5 @@ pub mod arrays; // decode, encode, extract, the look-up of a row
 pub mod lines; // one word or line
 pub mod sheets; // the text form of an array
 pub mod files; // a sheet in blocks
+pub mod loads; // a sheet from a seed
 pub mod versions; // the version of the library

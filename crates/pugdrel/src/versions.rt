@@ -8,5 +8,5 @@ ghost use Rattle.pugdrel.specs.Version.{version};
 pub extern "C" fn pugdrel_version() -> u64
     ensures { λ r. ⌜ r ≡ version ⌝ }
 {
-    3001000
+    3002000
 }
