@@ -1,8 +1,10 @@
 -- Sums over the numbers below a bound.
 -- Assumes nothing.
-use mathlib.Core.Path.{_≡_, refl, ap₂, _∙_}
+use mathlib.Core.Path.{_≡_, refl, ap, ap₂, _∙_}
+use mathlib.Core.Logic.{dite}
 use Prim.Native.Nat.{ℕ, zero, suc, _+_, _*_, _<_, _≤_}
-use native.Mathlib.Nat.{le-refl, mul-suc, zero-mul}
+use native.Mathlib.Nat.{le-refl, mul-suc, not-suc-le-zero, zero-mul}
+use native.Mathlib.Decide.{decLt}
 use native.Mathlib.Omega.{arith}
 use Rattle.laws.specs.Sums.{sumTo}
 
@@ -38,3 +40,18 @@ pub sum-first : (f : ℕ → ℕ) (n : ℕ) → sumTo f (suc n) ≡ f 0 + sumTo 
 unfolding sumTo
 sum-first f zero = omega arith
 sum-first f (suc n) = omega (arith, sum-first f n)
+
+-- no term counts
+pub sum-none : (f : ℕ → ℕ) (n : ℕ) → ((k : ℕ) → k < n → f k ≡ 0) → sumTo f n ≡ 0
+sum-none f n h = sum-ext f (λ k. 0) n h ∙ sum-zero n
+
+-- one term counts
+pub sum-one : (f : ℕ → ℕ) (n j : ℕ) → j < n → ((k : ℕ) → k < n → (k ≡ j → ⊥) → f k ≡ 0) → sumTo f n ≡ f j
+unfolding sumTo
+sum-one f zero j h r = absurd (not-suc-le-zero h)
+sum-one f (suc n) j h r =
+    dite (decLt j n)
+    (λ l. omega (arith, sum-one f n j l (λ k q. r k (omega arith)), r n (le-refl (suc n)) (λ z. omega arith)))
+    (λ l.
+    let e : n ≡ j = omega arith in
+    omega (arith, sum-none f n (λ k q. r k (omega arith) (λ z. omega arith)), ap f e))

@@ -9,6 +9,8 @@ use native.Mathlib.Nat.{mod-lt, zero-lt-suc, le-of-suc-le-suc, not-suc-le-zero, 
 use native.Mathlib.Omega.{arith}
 use lib.Dec.{eqb}
 use lib.ListN.{length, set, take, drop, length-set}
+use Rattle.laws.specs.Sums.{sumTo}
+use Rattle.laws.proofs.Sums.{sum-first}
 use borrow.Author.Tests.{eqb-true, eqb-false, eq-eqb, ne-eqb}
 use Rattle.line.specs.declared.side.Side.{Side}
 use Rattle.line.specs.declared.side.Side.the-variants.{One, Two}
@@ -230,3 +232,17 @@ triangle (y ∷ ys) [] e p q = absurd (omega arith)
 triangle (y ∷ ys) (c ∷ cs) [] p q = absurd (omega arith)
 triangle (y ∷ ys) (c ∷ cs) (e ∷ es) p q =
     omega (arith, triangle ys cs es (suc-inj p) (suc-inj q), cell-triangle y c e)
+
+-- ---- distances and erasures, cell by cell
+
+pub distance-sum : (r s : List ℕ) → length r ≡ length s → distance r s ≡ sumTo (λ k. differs (cell r k) (cell s k)) (length r)
+unfolding distance sumTo
+distance-sum [] [] e = refl
+distance-sum [] (x ∷ s) e = absurd (omega arith)
+distance-sum (c ∷ r) [] e = absurd (omega arith)
+distance-sum (c ∷ r) (x ∷ s) e = omega (arith, distance-sum r s (suc-inj e), sum-first (λ k. differs (cell (c ∷ r) k) (cell (x ∷ s) k)) (length r))
+
+pub erasures-sum : (r : List ℕ) → erasures r ≡ sumTo (λ k. bit (isErased (cell r k))) (length r)
+unfolding erasures sumTo
+erasures-sum [] = refl
+erasures-sum (c ∷ r) = omega (arith, erasures-sum r, sum-first (λ k. bit (isErased (cell (c ∷ r) k))) (length r))

@@ -135,7 +135,14 @@ refusal-more [] us h = absurd (h refl)
 refusal-more ((k, true) ∷ ts) us h = refl
 refusal-more ((k, false) ∷ ts) us h = refusal-more ts us h
 
--- and say all where none applies
+-- tests of which none applies begin with some of which none does
+pub refusal-first : (ts us : List (ℕ × Bool)) → T (numbered ts) → refusal (ts ++ us) ≡ 0 → refusal ts ≡ 0
+refusal-first [] us n e = refl
+refusal-first ((k, true) ∷ ts) us n e = e
+refusal-first ((zero, false) ∷ ts) us n e = absurd n
+refusal-first ((suc k, false) ∷ ts) us n e = refusal-first ts us n e
+
+-- further ones then say all
 pub refusal-rest : (ts us : List (ℕ × Bool)) → T (numbered ts) → refusal ts ≡ 0 → refusal (ts ++ us) ≡ refusal us
 refusal-rest [] us n e = refl
 refusal-rest ((zero, b) ∷ ts) us n e = absurd n

@@ -14,11 +14,12 @@ use lib.Seq.{getD-set-same, getD-set-other, getD-take, getD-drop, length-take-le
 use borrow.Author.Tests.{eq-eqb, ne-eqb}
 use Rattle.laws.specs.Bits.{bit}
 use Rattle.laws.specs.Sums.{sumTo}
-use Rattle.laws.proofs.Sums.{sum-first, sum-ext}
+use Rattle.laws.proofs.Sums.{sum-ext}
 use Rattle.degree.specs.declared.Degree.{Degree}
 use Rattle.degree.specs.Degree.{size}
 use Rattle.line.specs.Cells.{cell, IsWord, isErased, distance, erasures, designedDistance}
 use Rattle.line.specs.working.OneCell.{differs}
+use Rattle.line.proofs.CellLaws.{distance-sum, erasures-sum}
 use Rattle.array.specs.Arrays.{line}
 use Rattle.array.specs.Plain.{RowCondition}
 use Rattle.array.proofs.ArrayLaws.{line-room}
@@ -27,20 +28,6 @@ use Rattle.load.specs.Entries.{times, EachOnce, inRow, Hit}
 use Rattle.load.specs.working.Within.{Within}
 use Rattle.load.proofs.Places.{times-parts, times-entry, sum-times-le, sum-times}
 use Rattle.load.proofs.Shuffles.{once-within}
-
--- ---- distances and erasures, cell by cell
-
-distance-sum : (r s : List ℕ) → length r ≡ length s → distance r s ≡ sumTo (λ k. differs (cell r k) (cell s k)) (length r)
-unfolding distance sumTo
-distance-sum [] [] e = refl
-distance-sum [] (x ∷ s) e = absurd (omega arith)
-distance-sum (c ∷ r) [] e = absurd (omega arith)
-distance-sum (c ∷ r) (x ∷ s) e = omega (arith, distance-sum r s (suc-inj e), sum-first (λ k. differs (cell (c ∷ r) k) (cell (x ∷ s) k)) (length r))
-
-erasures-sum : (r : List ℕ) → erasures r ≡ sumTo (λ k. bit (isErased (cell r k))) (length r)
-unfolding erasures sumTo
-erasures-sum [] = refl
-erasures-sum (c ∷ r) = omega (arith, erasures-sum r, sum-first (λ k. bit (isErased (cell (c ∷ r) k))) (length r))
 
 -- ---- cells that are changed
 

@@ -8,3 +8,4 @@ mod Changing
 mod ShuffleLoop
 pub mod EntryLaws
 mod Making
+pub mod Examples

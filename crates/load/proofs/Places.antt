@@ -12,7 +12,7 @@ use lib.ListN.{length, take, drop, set, take-append-drop}
 use borrow.Author.Tests.{eq-eqb, ne-eqb}
 use Rattle.laws.specs.Bits.{bit}
 use Rattle.laws.specs.Sums.{sumTo}
-use Rattle.laws.proofs.Sums.{sum-add, sum-zero, sum-first, sum-ext}
+use Rattle.laws.proofs.Sums.{sum-add, sum-zero, sum-first, sum-none, sum-one}
 use Rattle.line.specs.Cells.{cell}
 use Rattle.line.specs.Decoding.{listTo}
 use Rattle.load.specs.Entries.{times}
@@ -42,21 +42,6 @@ unfolding times
 times-set p [] i x h = absurd (not-suc-le-zero h)
 times-set p (y ∷ l) zero x h = omega arith
 times-set p (y ∷ l) (suc i) x h = omega (arith, times-set p l i x (le-of-suc-le-suc h))
-
--- ---- sums in which one term counts, or none
-
-pub sum-none : (f : ℕ → ℕ) (n : ℕ) → ((k : ℕ) → k < n → f k ≡ 0) → sumTo f n ≡ 0
-sum-none f n h = sum-ext f (λ k. 0) n h ∙ sum-zero n
-
-pub sum-one : (f : ℕ → ℕ) (n j : ℕ) → j < n → ((k : ℕ) → k < n → (k ≡ j → ⊥) → f k ≡ 0) → sumTo f n ≡ f j
-unfolding sumTo
-sum-one f zero j h r = absurd (not-suc-le-zero h)
-sum-one f (suc n) j h r =
-    dite (decLt j n)
-    (λ l. omega (arith, sum-one f n j l (λ k q. r k (omega arith)), r n (le-refl (suc n)) (λ z. omega arith)))
-    (λ l.
-    let e : n ≡ j = omega arith in
-    omega (arith, sum-none f n (λ k q. r k (omega arith) (λ z. omega arith)), ap f e))
 
 -- ---- summed over numbers from a on
 

@@ -17,7 +17,7 @@ use Rattle.line.specs.declared.refusals.Refusal.{Refusal}
 use Rattle.line.specs.declared.refusals.Call.{Call}
 use Rattle.line.specs.Refusals.{number, refusal}
 use Rattle.line.specs.working.Calls.{Tested}
-use Rattle.line.proofs.Refusing.{numbered, none-applies, refusal-more, refusal-rest, some-number, known-size, tested-known}
+use Rattle.line.proofs.Refusing.{numbered, none-applies, refusal-more, refusal-first, refusal-rest, some-number, known-size, tested-known}
 use Rattle.array.specs.Refusals.{codingTests}
 use Rattle.load.specs.Entries.{loadTests}
 
@@ -28,13 +28,6 @@ sum-above area wrong unsure {sum} ha hw hu e =
     dite (decLt (wrong + unsure) (2 ^ 64))
     (λ l. let s : sum ≡ wrong + unsure = omega arith in rw (s, le-ltb (wrong + unsure) wrong (omega arith)))
     (λ l. rw (lt-ltb sum wrong (omega arith), lt-ltb area (wrong + unsure) (omega arith)))
-
--- tests of which none applies begin with some of which none does
-refusal-first : (ts us : List (ℕ × Bool)) → T (numbered ts) → refusal (ts ++ us) ≡ 0 → refusal ts ≡ 0
-refusal-first [] us n e = refl
-refusal-first ((k, true) ∷ ts) us n e = e
-refusal-first ((zero, false) ∷ ts) us n e = absurd n
-refusal-first ((suc k, false) ∷ ts) us n e = refusal-first ts us n e
 
 module _ (degree seed wrong unsure : ℕ) (message cells : List ℕ) where
   abbrev Before : List (ℕ × Bool)

@@ -12,13 +12,14 @@ use lib.ListN.{length, set, length-set}
 use lib.Seq.{getD-set-same, getD-set-other}
 use borrow.Author.Tests.{eq-eqb, ne-eqb}
 use Rattle.laws.specs.Bits.{bit}
+use Rattle.laws.proofs.Sums.{sum-none, sum-one}
 use Rattle.line.specs.Cells.{cell}
 use Rattle.line.specs.Decoding.{listTo}
 use Rattle.line.proofs.LineLaw.{listTo-length}
 use Rattle.load.specs.Load.{start, next, drawn, exchanged, shuffled, order}
 use Rattle.load.specs.Entries.{times, EachOnce}
 use Rattle.load.specs.working.Within.{Within}
-use Rattle.load.proofs.Places.{times-set, times-entry, times-listTo, sum-none, sum-one}
+use Rattle.load.proofs.Places.{times-set, times-entry, times-listTo}
 
 -- ---- an exchange
 
