@@ -1,8 +1,9 @@
 /* pugdrel.h: a proved iterative decoder for product codes.
  *
  * An array of n by n bits, each row and column of which is a codeword of a t = 2 extended BCH code, arrives with some bits wrong
- * and some marked unsure. pugdrel_decode mends it. The other functions encode a message, take it out again, look up a row, work on
- * one line, make the text that the program `sheet` prints, and read and write the files in which a recorder keeps a sheet.
+ * and some marked unsure. pugdrel_decode mends it. The other functions encode a message, take it out again, look up a row, make a
+ * damaged array from a seed, work on one line, make the text that the program `sheet` prints, and read and write the files in
+ * which a recorder keeps a sheet.
  * The library is written in Rattle: the source of every function below is proved to return, to touch no memory but what it is
  * lent, and to give exactly what its contract says, for every input. The contracts are in crates/pugdrel/specs. Not proved are the
  * compiler's back end and this header, which repeats the types of the source by hand; examples/c checks every call.
@@ -12,6 +13,7 @@
  *     rt staticlib pugdrel
  *     cc -Iinclude examples/c/decode.c target/staticlib/libpugdrel.a -o target/decode && target/decode
  *     cc -Iinclude examples/c/blocks.c target/staticlib/libpugdrel.a -o target/blocks && target/blocks
+ *     cc -Iinclude examples/c/load.c target/staticlib/libpugdrel.a -o target/load && target/load
  *
  * Sizes. The degree is 4, 6 or 7. At degree 4 a line has n = 16 cells, k = 7 of them message; at degree 6 n = 64 and k = 51; at
  * degree 7 n = 128 and k = 113. An array is n * n cells, row after row; a message is k * k cells. The length of every slice is
@@ -58,10 +60,10 @@
 extern "C" {
 #endif
 
-/* The version of this header: 1000000 times the first number, 1000 times the second, and the third. It is 3.1.0. The first grows
+/* The version of this header: 1000000 times the first number, 1000 times the second, and the third. It is 3.2.0. The first grows
  * where a call changes, the second where one is added: a program is to compare it with pugdrel_version() where header and library
  * may come apart. */
-#define PUGDREL_VERSION 3001000
+#define PUGDREL_VERSION 3002000
 
 /* The version of the library. */
 PUGDREL_NODISCARD
@@ -89,7 +91,9 @@ enum pugdrel_refusal {
     PUGDREL_BAD_CELL = 4,       /* a cell above 2, or above 1 in a message or a word */
     PUGDREL_BAD_FILE = 5,       /* a file to read not of the exact length; a wrong byte 0 or 1; sheet numbers that differ */
     PUGDREL_BAD_SUM = 6,        /* a sum of a block that fails */
-    PUGDREL_BAD_CONTENT = 7     /* a cell of 3 in a block, or a filler byte that is not zero */
+    PUGDREL_BAD_CONTENT = 7,    /* a cell of 3 in a block, or a filler byte that is not zero */
+    PUGDREL_BAD_SEED = 8,       /* a seed of 0 */
+    PUGDREL_TOO_MANY = 9        /* more wrong and unsure cells together than the array has */
 };
 
 /* A refusal number in words, for a log. The text is constant: nothing is to be freed. */
@@ -104,6 +108,8 @@ static inline const char *pugdrel_refusal_text(uint64_t number)
     case PUGDREL_BAD_FILE: return "a file not of 1536 bytes, a block's number or degree wrong, or sheet numbers that differ";
     case PUGDREL_BAD_SUM: return "a sum of a block that fails";
     case PUGDREL_BAD_CONTENT: return "a cell of 3 in a block, or a filler byte that is not zero";
+    case PUGDREL_BAD_SEED: return "a seed of 0";
+    case PUGDREL_TOO_MANY: return "more wrong and unsure cells together than the array has";
     default: return "no refusal number of this library";
     }
 }
@@ -152,6 +158,25 @@ enum pugdrel_row_report {
 PUGDREL_NODISCARD
 uint64_t pugdrel_row(uint64_t degree, const uint8_t *cells, size_t cells_len, size_t index, uint64_t *report,
                      size_t report_len);
+
+/* ---- A repeatable load. */
+
+/* Encodes a message and damages the array: `wrong` cells are inverted and `unsure` others made unsure, at places that the degree
+ * and the seed choose. The same call gives the same array everywhere.
+ * message: k * k bits, read only. cells: n * n, written only; what they held is not tested.
+ *
+ * Draws. There are two numbers of 64 bits, s, which starts as the seed, and w, which starts as 0. A draw does s ^= s << 13,
+ * s ^= s >> 7 and s ^= s << 17, then adds hexadecimal 9E3779B97F4A7C15 to w, and is s plus w; both sums wrap.
+ * Places. The places 0 to n * n - 1 are shuffled from the last one down to place 1: place i changes with the place numbered by
+ * the next draw modulo i + 1. The first `wrong` places in the shuffled order are inverted, the next `unsure` made unsure. Each
+ * place is there a single time, so that exactly so many cells are hit.
+ *
+ * Where 2 * wrong + unsure is below 6, pugdrel_decode gives the array that was encoded, closed, as it does wherever that holds in
+ * every row. wrong and unsure may be any numbers: their sum is tested without wrapping.
+ * Refusals: 1, 3, 4, 8, 9. */
+PUGDREL_NODISCARD
+uint64_t pugdrel_load(uint64_t degree, uint64_t seed, uint64_t wrong, uint64_t unsure, const uint8_t *message,
+                      size_t message_len, uint8_t *cells, size_t cells_len);
 
 /* ---- One word or line of n cells. */
 
