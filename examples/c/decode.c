@@ -1,5 +1,5 @@
 /* Sends messages through a bad channel and back, and calls every function of the library with a result that is known, but for the
- * reader and the writer of the recorder's files: blocks.c has those.
+ * reader and the writer of the recorder's files, which blocks.c has. load.c has more of the loads that the channel here is made of.
  * Build and run, from the root of the repository, after `rt staticlib pugdrel`:
  *
  *     cc -Iinclude examples/c/decode.c target/staticlib/libpugdrel.a -o target/decode && target/decode
@@ -10,15 +10,6 @@
 
 #include <stdio.h>
 #include <string.h>
-
-/* A small generator of numbers, the same in every run. */
-static uint64_t state = 1;
-
-static uint64_t draw(void)
-{
-    state = state * 6364136223846793005u + 1442695040888963407u;
-    return state >> 33;
-}
 
 /* ---- The degrees, and room for what the longest lines need. */
 
@@ -44,37 +35,49 @@ static const struct code codes[] = {
 
 /* ---- A message, sent and received. */
 
-/* One wrong cell and three unsure ones in every row: 2 * 1 + 3 is below 6, so that decoding must succeed. */
-static size_t damage(size_t n)
+/* What the channel does at a degree, and what decoding reports then. */
+static const struct channel {
+    const struct code *code;
+    uint64_t seed, wrong, unsure, report[PUGDREL_DECODE_REPORT];
+} channels[] = {
+    {&codes[0], 1, 1, 3, {256, 0, 1}}, /* 2 * 1 + 3 is below 6, so that decoding must succeed: so it is at each degree */
+    {&codes[0], 2, 24, 48, {279, 0, 1}},
+    {&codes[0], 3, 48, 96, {267, 52, 0}}, /* more than can be mended, and so it is at each degree */
+    {&codes[1], 1, 1, 3, {1024, 0, 1}},
+    {&codes[1], 2, 96, 192, {1153, 0, 1}},
+    {&codes[1], 3, 192, 384, {986, 273, 0}},
+    {&codes[2], 1, 1, 3, {2048, 0, 1}},
+    {&codes[2], 2, 192, 384, {2340, 0, 1}},
+    {&codes[2], 3, 384, 768, {2346, 536, 0}},
+};
+
+/* A message, and filling words of any bits. */
+static void write_message(size_t k)
 {
-    size_t i, j;
-    for (i = 0; i < n; i++) {
-        size_t at = draw() % n;
-        received[i * n + at] ^= 1;
-        for (j = 1; j <= 3; j++) received[i * n + (at + j) % n] = 2;
-    }
-    return 4 * n;
+    size_t i;
+    for (i = 0; i < k * k; i++) message[i] = (uint8_t)(i * i / 5 % 2);
+    for (i = 0; i < NUMBERS; i++) filling[i] = (i + 1) * UINT64_C(0x9E3779B97F4A7C15);
 }
 
-static void round_trip(const struct code *code)
+static void round_trip(const struct channel *by)
 {
-    const uint64_t degree = code->degree;
-    const size_t n = code->n, k = code->k;
+    const uint64_t degree = by->code->degree;
+    const size_t n = by->code->n, k = by->code->k;
+    const int closed = (int)by->report[PUGDREL_CLOSED];
     uint64_t report[PUGDREL_DECODE_REPORT];
-    size_t i, damaged;
-    for (i = 0; i < k * k; i++) message[i] = (uint8_t)(draw() % 2);
-    for (i = 0; i < NUMBERS; i++) filling[i] = draw() << 33 ^ draw();
+    write_message(k);
     check(pugdrel_encode(degree, message, k * k, sent, n * n) == PUGDREL_OK, "a message is encoded");
-    memcpy(received, sent, n * n);
-    damaged = damage(n);
+    check(pugdrel_load(degree, by->seed, by->wrong, by->unsure, message, k * k, received, n * n) == PUGDREL_OK,
+          "it goes through the channel");
     check(pugdrel_decode(degree, ITERATIONS, received, n * n, filling, PUGDREL_FILLING_NUMBERS(ITERATIONS, n), cells, n * n,
                          report, PUGDREL_DECODE_REPORT) == PUGDREL_OK, "an array is decoded");
-    check(memcmp(cells, sent, n * n) == 0, "the cells are those that were sent");
-    check(report[PUGDREL_UNSURE] == 0 && report[PUGDREL_CLOSED] == 1, "no cell is unsure, and the array is closed");
+    check(memcmp(report, by->report, sizeof report) == 0, "the count, the unsure cells and closed are known");
+    check((memcmp(cells, sent, n * n) == 0) == closed, "the cells are those that were sent where the array is closed");
     check(pugdrel_extract(degree, cells, n * n, taken_out, k * k) == PUGDREL_OK, "the message is taken out");
-    check(memcmp(taken_out, message, k * k) == 0, "it is the message that was sent");
-    printf("degree %d: %d of %d cells wrong or unsure, %d decodings counted, the message of %d bits came through\n", (int)degree,
-           (int)damaged, (int)(n * n), (int)report[PUGDREL_COUNT], (int)(k * k));
+    check((memcmp(taken_out, message, k * k) == 0) == closed, "and is then the message that was sent");
+    printf("degree %d: %d of %d cells wrong, %d unsure, %d decodings counted, the message of %d bits %s\n", (int)degree,
+           (int)by->wrong, (int)(n * n), (int)by->unsure, (int)report[PUGDREL_COUNT], (int)(k * k),
+           closed ? "came through" : "was lost");
 }
 
 /* ---- Closed: arrays of degree 4 that decoding leaves as they are. */
@@ -221,7 +224,7 @@ static void refusals(void)
 static void words_of_refusals(void)
 {
     uint64_t a, b;
-    for (a = 0; a <= PUGDREL_BAD_CONTENT + 1; a++)
+    for (a = 0; a <= PUGDREL_TOO_MANY + 1; a++)
         for (b = 0; b < a; b++)
             check(strcmp(pugdrel_refusal_text(a), pugdrel_refusal_text(b)) != 0, "two refusals have different words");
 }
@@ -357,10 +360,11 @@ static void refused_sheets(void)
 
 int main(void)
 {
+    const struct channel *channel;
     const struct code *code;
     check(pugdrel_version() == PUGDREL_VERSION, "the library is of the header's version");
+    for (channel = channels; channel < channels + sizeof channels / sizeof *channels; channel++) round_trip(channel);
     for (code = codes; code < codes + sizeof codes / sizeof *codes; code++) {
-        round_trip(code);
         fillings(code);
         rows(code);
         sheet(code);
