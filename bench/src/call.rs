@@ -19,10 +19,11 @@ pub enum Entry {
     Sheet,
     ReadBlocks,
     WriteBlocks,
+    Load,
 }
 
 impl Entry {
-    pub const ALL: [Entry; 10] = [
+    pub const ALL: [Entry; 11] = [
         Entry::Decode,
         Entry::Encode,
         Entry::Extract,
@@ -33,6 +34,7 @@ impl Entry {
         Entry::Sheet,
         Entry::ReadBlocks,
         Entry::WriteBlocks,
+        Entry::Load,
     ];
 
     /// Where it stands among all.
@@ -52,6 +54,7 @@ impl Entry {
             Entry::Sheet => "sheet",
             Entry::ReadBlocks => "read_blocks",
             Entry::WriteBlocks => "write_blocks",
+            Entry::Load => "load",
         }
     }
 }
@@ -66,6 +69,10 @@ pub struct Call {
     pub index: usize,
     /// The sheet number to write.
     pub number: u16,
+    /// Of a load, and the cells that it inverts and makes unsure.
+    pub seed: u64,
+    pub wrong: u64,
+    pub unsure: u64,
     /// What is read: the received array, the message, the cells, the incoming line, the text, or the file.
     pub input: Vec<u8>,
     /// The channel line.
@@ -100,6 +107,9 @@ impl Call {
             iterations: 0,
             index: 0,
             number: 0,
+            seed: 0,
+            wrong: 0,
+            unsure: 0,
             input: Vec::new(),
             channel: Vec::new(),
             filling: Vec::new(),
@@ -149,6 +159,7 @@ impl Call {
             Entry::Sheet => sheet(input, output, report),
             Entry::ReadBlocks => read_blocks(input, output, report),
             Entry::WriteBlocks => write_blocks(self.number, input, output),
+            Entry::Load => load(degree, self.seed, self.wrong, self.unsure, input, output),
         }
     }
 
@@ -171,6 +182,7 @@ impl Call {
             Entry::Sheet => sheet(input, output, report),
             Entry::ReadBlocks => read_blocks(input, output, report),
             Entry::WriteBlocks => write_blocks(self.number, input, output),
+            Entry::Load => load(degree, self.seed, self.wrong, self.unsure, input, output),
         }
     }
 
@@ -222,6 +234,9 @@ impl fmt::Display for Call {
         writeln!(f, "iterations {}", self.iterations)?;
         writeln!(f, "index {}", self.index)?;
         writeln!(f, "number {}", self.number)?;
+        writeln!(f, "seed {}", self.seed)?;
+        writeln!(f, "wrong {}", self.wrong)?;
+        writeln!(f, "unsure {}", self.unsure)?;
         writeln!(f, "input {}", cells_text(&self.input))?;
         writeln!(f, "channel {}", cells_text(&self.channel))?;
         writeln!(f, "filling {}", words_text(&self.filling))?;
@@ -250,6 +265,9 @@ impl FromStr for Call {
             iterations: field("iterations")?.parse()?,
             index: field("index")?.parse()?,
             number: field("number")?.parse()?,
+            seed: field("seed")?.parse()?,
+            wrong: field("wrong")?.parse()?,
+            unsure: field("unsure")?.parse()?,
             input: cells_from(&field("input")?)?,
             channel: cells_from(&field("channel")?)?,
             filling: words_from(&field("filling")?)?,

@@ -23,28 +23,35 @@ pub struct Mix {
 
 impl Mix {
     /// A plain decoding of an array of degree 7 takes its time, so that there are fewer of these; a file takes little, and has many
-    /// ways to be wrong. The long lines and the files have calls of their own, so that the others do not depend on them.
-    pub const ALL: [Mix; 3] = [
+    /// ways to be wrong. The long lines, the files and the loads have calls of their own, so that the others do not depend on them.
+    pub const ALL: [Mix; 4] = [
         Mix {
             name: "degree 4 or 6",
             degrees: &[Degree::Four, Degree::Six],
-            weights: [6, 1, 1, 1, 2, 3, 4, 2, 0, 0],
+            weights: [6, 1, 1, 1, 2, 3, 4, 2, 0, 0, 0],
             faulty: 4,
             share: (1, 1),
         },
         Mix {
             name: "degree 7",
             degrees: &[Degree::Seven],
-            weights: [1, 1, 1, 1, 2, 3, 4, 1, 0, 0],
+            weights: [1, 1, 1, 1, 2, 3, 4, 1, 0, 0, 0],
             faulty: 4,
             share: (1, 4),
         },
         Mix {
             name: "files of the recorder",
             degrees: &[Degree::Six],
-            weights: [0, 0, 0, 0, 0, 0, 0, 0, 2, 1],
+            weights: [0, 0, 0, 0, 0, 0, 0, 0, 2, 1, 0],
             faulty: 2,
             share: (4, 1),
+        },
+        Mix {
+            name: "loads",
+            degrees: &Degree::ALL,
+            weights: [0, 0, 0, 0, 0, 0, 0, 0, 0, 0, 1],
+            faulty: 2,
+            share: (1, 1),
         },
     ];
 
@@ -97,6 +104,7 @@ fn good_call(entry: Entry, degree: Degree, random: &mut Random) -> Call {
             let number = recorder::number(random);
             write_call(number, recorder::sheet(random), random)
         }
+        Entry::Load => load_call(degree, random),
     }
 }
 
@@ -178,6 +186,34 @@ pub fn write_call(number: u16, cells: Vec<u8>, random: &mut Random) -> Call {
     call
 }
 
+/// A call that loads a sheet: with few cells hit, with any number, or with all of them.
+pub fn load_call(degree: Degree, random: &mut Random) -> Call {
+    let (n, k) = (degree.n(), degree.k());
+    let mut call = Call::new(Entry::Load, degree.number());
+    let hit = match random.below(4) {
+        0 => random.below(6),
+        1 => random.below(6 * n),
+        2 => random.between(0, n * n),
+        _ => n * n,
+    };
+    call.wrong = random.between(0, hit) as u64;
+    call.unsure = hit as u64 - call.wrong;
+    call.seed = seed(random);
+    call.input = random.bits(k * k);
+    call.output = random.bytes(n * n);
+    call
+}
+
+/// A seed that is taken: any, a small one, or one with a single bit.
+fn seed(random: &mut Random) -> u64 {
+    match random.below(4) {
+        0 => random.between(1, 20) as u64,
+        1 => 1 << random.below(64),
+        2 => u64::MAX,
+        _ => random.word().max(1),
+    }
+}
+
 /// 1 to 20, mostly few: the plain decoding takes its time.
 fn iterations(degree: Degree, random: &mut Random) -> u64 {
     let usual = match degree {
@@ -246,6 +282,10 @@ enum Fault {
     OutputCell,
     /// A flaw of the file that is read, its length too.
     File,
+    /// The seed 0.
+    Seed,
+    /// More wrong and unsure cells than there are.
+    TooMany,
 }
 
 /// The faults that a call of this entry can have.
@@ -283,6 +323,17 @@ fn faults_of(entry: Entry) -> &'static [Fault] {
         // There are many flaws that a file can have.
         Entry::ReadBlocks => &[File, File, File, File, File, OutputLength, ReportLength],
         Entry::WriteBlocks => &[InputLength, InputCell, InputCell, OutputLength],
+        Entry::Load => &[
+            Degree,
+            InputLength,
+            OutputLength,
+            InputCell,
+            OutputCell,
+            Seed,
+            Seed,
+            TooMany,
+            TooMany,
+        ],
     }
 }
 
@@ -302,6 +353,28 @@ fn add_fault(call: &mut Call, random: &mut Random) {
         Fault::ChannelCell => spoil(&mut call.channel, random),
         Fault::OutputCell => spoil(&mut call.output, random),
         Fault::File => recorder::spoil(&mut call.input, random),
+        Fault::Seed => call.seed = 0,
+        Fault::TooMany => (call.wrong, call.unsure) = too_many(call.output.len() as u64, random),
+    }
+}
+
+/// Wrong and unsure cells that are together more than these: one more, in any parts, or so many that a sum of 64 bits wraps to
+/// few.
+fn too_many(cells: u64, random: &mut Random) -> (u64, u64) {
+    let part = random.between(0, cells as usize) as u64;
+    let (one, other) = random.pick(&[
+        (part, cells + 1 - part),
+        (cells, cells),
+        (part, u64::MAX),
+        (u64::MAX - part, part + 1),
+        (1 << 63, 1 << 63),
+        (1 << 32, 1 << 32),
+        (u64::MAX, u64::MAX),
+    ]);
+    if random.one_in(2) {
+        (one, other)
+    } else {
+        (other, one)
     }
 }
 

@@ -6,9 +6,10 @@ use std::time::{Duration, Instant};
 
 use crate::arguments::{Arguments, Failure};
 use crate::call::{Call, Entry, Outcome, Side};
-use crate::calls::{Mix, random_call, read_call, write_call};
+use crate::calls::{Mix, load_call, random_call, read_call, write_call};
 use crate::damage;
 use crate::fast::{Decoder, Effort};
+use crate::plain::line::known_differences;
 use crate::plain::{Code, Degree, Half, UNSURE, erasures};
 use crate::random::Random;
 use crate::recorder;
@@ -79,6 +80,8 @@ pub fn replay(mut arguments: Arguments) -> Result<(), Failure> {
 fn known_call(mix: &Mix, random: &mut Random) -> Result<Call, Failure> {
     if mix.has(Entry::ReadBlocks) {
         there_and_back(random)
+    } else if mix.has(Entry::Load) {
+        as_many_as_told(random.pick(mix.degrees), random)
     } else {
         within_condition(random.pick(mix.degrees), random)
     }
@@ -129,6 +132,23 @@ fn there_and_back(random: &mut Random) -> Result<Call, Failure> {
         return Err("a sheet was not read as it was written, or not written as it was read".into());
     }
     Ok(read)
+}
+
+/// W-204 by the library alone: "the shuffle holds each place a single time, so exactly D and E cells are hit". The load is handed on.
+fn as_many_as_told(degree: Degree, random: &mut Random) -> Result<Call, Failure> {
+    let load = load_call(degree, random);
+    let mut encode = Call::new(Entry::Encode, load.degree);
+    encode.input.clone_from(&load.input);
+    encode.output.clone_from(&load.output);
+    let sent = encode.run(Side::Library).after.output;
+    let received = load.run(Side::Library).after.output;
+    let unsure = erasures(&received) as u64;
+    let wrong = known_differences(&received, &sent) as u64;
+    if (wrong, unsure) != (load.wrong, load.unsure) {
+        println!("{encode}\n{load}");
+        return Err(format!("a load with {wrong} cells wrong and {unsure} unsure").into());
+    }
+    Ok(load)
 }
 
 /// The fast decoder is a third opinion on a decoding that is taken.
@@ -182,7 +202,7 @@ fn differences<T: PartialEq + std::fmt::Debug>(name: &str, library: &[T], plain:
 }
 
 /// Refusals are numbered from 1 to this.
-const REFUSALS: usize = 7;
+const REFUSALS: usize = 9;
 
 /// What a run went through, so that a reader sees what it did not.
 #[derive(Default)]

@@ -10,6 +10,7 @@ pub mod clauses;
 pub mod code;
 pub mod entries;
 pub mod line;
+pub mod load;
 pub mod text;
 
 pub use array::Half;

@@ -30,6 +30,10 @@ pub enum Refusal {
     Sum,
     /// 7: a cell of 3 in a file, or a filler byte that is not zero.
     Content,
+    /// 8: a seed of 0.
+    Seed,
+    /// 9: more wrong and unsure cells together than the array has.
+    TooMany,
     /// A number that is not in documents 01 and 02.
     Unknown(u64),
 }
@@ -45,6 +49,8 @@ impl Refusal {
             Refusal::File => 5,
             Refusal::Sum => 6,
             Refusal::Content => 7,
+            Refusal::Seed => 8,
+            Refusal::TooMany => 9,
             Refusal::Unknown(number) => number,
         }
     }
@@ -60,6 +66,8 @@ impl Refusal {
             5 => Err(Refusal::File),
             6 => Err(Refusal::Sum),
             7 => Err(Refusal::Content),
+            8 => Err(Refusal::Seed),
+            9 => Err(Refusal::TooMany),
             number => Err(Refusal::Unknown(number)),
         }
     }
@@ -178,6 +186,19 @@ pub fn read_blocks(file: &[u8], cells: &mut [u8]) -> Result<u16, Refusal> {
 /// Writes the file of a sheet of degree 6.
 pub fn write_blocks(number: u16, cells: &[u8], file: &mut [u8]) -> Result<(), Refusal> {
     Refusal::test(entries::write_blocks(number, cells, file))
+}
+
+/// Writes the array of a message of k by k bits with this many cells inverted and this many others unsure, at the places that the
+/// seed chooses.
+pub fn load(
+    degree: u64,
+    seed: u64,
+    wrong: u64,
+    unsure: u64,
+    message: &[u8],
+    cells: &mut [u8],
+) -> Result<(), Refusal> {
+    Refusal::test(entries::load(degree, seed, wrong, unsure, message, cells))
 }
 
 /// The functions of the library as they are. Each returns the refusal number, 0 for none; the numbers that it answers
@@ -367,6 +388,30 @@ pub mod entries {
             )
         }
     }
+
+    /// Reports nothing.
+    pub fn load(
+        degree: u64,
+        seed: u64,
+        wrong: u64,
+        unsure: u64,
+        message: &[u8],
+        cells: &mut [u8],
+    ) -> u64 {
+        // SAFETY: as in `decode`.
+        unsafe {
+            library::pugdrel_load(
+                degree,
+                seed,
+                wrong,
+                unsure,
+                message.as_ptr(),
+                message.len(),
+                cells.as_mut_ptr(),
+                cells.len(),
+            )
+        }
+    }
 }
 
 /// The C interface, as `include/pugdrel.h` declares it.
@@ -468,6 +513,17 @@ mod library {
             cells_len: usize,
             file: *mut u8,
             file_len: usize,
+        ) -> u64;
+
+        pub fn pugdrel_load(
+            degree: u64,
+            seed: u64,
+            wrong: u64,
+            unsure: u64,
+            message: *const u8,
+            message_len: usize,
+            cells: *mut u8,
+            cells_len: usize,
         ) -> u64;
     }
 }

@@ -1,5 +1,6 @@
-//! The library through its safe wrapper: the examples of document 01, files of the recorder, and what a refusal leaves.
+//! The library through its safe wrapper: the examples of document 01, files of the recorder, loads, and what a refusal leaves.
 
+use pugdrel_bench::plain::entries;
 use pugdrel_bench::pugdrel::{self, Refusal};
 
 const UNSURE: u8 = 2;
@@ -344,6 +345,107 @@ fn sheets_are_refused_and_change_nothing() {
     }
     let numbers = [Refusal::File, Refusal::Sum, Refusal::Content].map(Refusal::number);
     assert_eq!(numbers, [5, 6, 7]);
+}
+
+/// Loads of the acceptance run, one for each seed: wrong and unsure cells are seed × n / 16 and twice as many.
+const SEEDS: std::ops::RangeInclusive<u64> = 1..=20;
+
+/// The run's load of a seed, by the library and by the plain implementation alike.
+fn acceptance_load((degree, n, k): (u64, usize, usize), seed: u64) -> Vec<u8> {
+    let message: Vec<u8> = (0..k * k).map(|cell| (cell / 3 % 2) as u8).collect();
+    let wrong = seed * n as u64 / 16;
+    let (mut cells, mut plain) = (vec![9; n * n], vec![9; n * n]);
+    pugdrel::load(degree, seed, wrong, 2 * wrong, &message, &mut cells).unwrap();
+    let refusal = entries::load(degree, seed, wrong, 2 * wrong, &message, &mut plain);
+    assert!(
+        refusal == 0 && cells == plain,
+        "degree {degree}, seed {seed}"
+    );
+    cells
+}
+
+/// Of each degree: the sum of each received cell times its place, counted from 1; of the counts; of the cells left unsure; and how
+/// many are closed. The agreement program prints the same, and the C example asks for it.
+#[test]
+fn the_acceptance_run_gives_its_numbers() {
+    let expected = [
+        [422905, 5210, 0, 20],
+        [89216655, 20667, 0, 20],
+        [1382416801, 41616, 0, 20],
+    ];
+    for (code, expected) in DEGREES.into_iter().zip(expected) {
+        let (degree, n, _) = code;
+        let mut sums = [0; 4];
+        for seed in SEEDS {
+            let received = acceptance_load(code, seed);
+            let mut cells = vec![9; n * n];
+            let report =
+                pugdrel::decode(degree, 4, &received, &vec![0; 16 * n], &mut cells).unwrap();
+            let places = received
+                .iter()
+                .zip(1..)
+                .map(|(&cell, place)| u64::from(cell) * place);
+            sums[0] += places.sum::<u64>();
+            sums[1] += report.count;
+            sums[2] += report.erasures;
+            sums[3] += u64::from(report.closed);
+        }
+        assert_eq!(sums, expected, "degree {degree}");
+    }
+}
+
+/// The places that a seed hits first, reckoned by a program in another language: two are inverted, the next two unsure.
+#[test]
+fn a_load_hits_known_places() {
+    for ((degree, n, k), places) in DEGREES.into_iter().zip([
+        [74, 230, 80, 46],
+        [4082, 636, 1247, 1157],
+        [15754, 13740, 671, 11913],
+    ]) {
+        let mut expected = vec![0; n * n];
+        places[..2]
+            .iter()
+            .for_each(|&place: &usize| expected[place] = 1);
+        places[2..]
+            .iter()
+            .for_each(|&place: &usize| expected[place] = UNSURE);
+        let mut cells = vec![9; n * n];
+        pugdrel::load(degree, 20, 2, 2, &vec![0; k * k], &mut cells).unwrap();
+        assert!(cells == expected, "degree {degree}");
+    }
+}
+
+#[test]
+fn loads_are_refused_and_change_nothing() {
+    let (good, bad) = ([1; 49], [2; 49]);
+    let mut cells = vec![9; 256];
+    let mut refusal = |degree, seed, [wrong, unsure]: [u64; 2], message: &[u8], length: usize| {
+        let refused = pugdrel::load(degree, seed, wrong, unsure, message, &mut cells[..length]);
+        assert!(cells.iter().all(|&cell| cell == 9));
+        refused.unwrap_err()
+    };
+    let many = [200, 57];
+    assert_eq!(refusal(5, 0, many, &bad, 255), Refusal::Degree);
+    assert_eq!(refusal(6, 1, [0, 0], &good, 256), Refusal::Length);
+    assert_eq!(refusal(4, 0, many, &bad, 255), Refusal::Length);
+    assert_eq!(refusal(4, 0, many, &bad[1..], 256), Refusal::Length);
+    assert_eq!(refusal(4, 0, many, &bad, 256), Refusal::Cell);
+    assert_eq!(refusal(4, 0, many, &good, 256), Refusal::Seed);
+    for too_many in [
+        many,
+        [257, 0],
+        [0, 257],
+        [u64::MAX, 1],
+        [1 << 63; 2],
+        [u64::MAX; 2],
+    ] {
+        assert_eq!(refusal(4, 1, too_many, &good, 256), Refusal::TooMany);
+    }
+    assert_eq!(
+        [Refusal::Seed, Refusal::TooMany].map(Refusal::number),
+        [8, 9]
+    );
+    assert_eq!(pugdrel::load(4, 1, 200, 56, &good, &mut cells), Ok(()));
 }
 
 #[test]

@@ -4,7 +4,7 @@
 //! that it answers with, and the refusal number as its result, 0 for none. A refused call changes no lent cell, and the
 //! numbers of its report are 0; a report of a wrong length is itself refused as 3, and keeps what it held.
 
-use super::{Code, Degree, UNSURE, blocks, text};
+use super::{Code, Degree, UNSURE, blocks, load as loads, text};
 
 /// Bytes that `sheet` has room for: four numbers of 21 bytes at most and 128 lines of 129.
 pub const SHEET_OUTPUT: usize = 16596;
@@ -12,7 +12,7 @@ pub const SHEET_OUTPUT: usize = 16596;
 /// Iterations: 1 to this.
 pub const MOST_ITERATIONS: u64 = 20;
 
-/// A refusal number, 1 to 7.
+/// A refusal number, 1 to 9.
 type Refused = u64;
 
 pub fn decode(
@@ -48,14 +48,7 @@ pub fn decode(
 }
 
 pub fn encode(degree: u64, message: &[u8], cells: &mut [u8]) -> u64 {
-    let tests = || {
-        let code = code_of(degree)?;
-        let (n, k) = (code.n(), code.degree.k());
-        test_lengths(&[(message.len(), k * k), (cells.len(), n * n)])?;
-        test_cells(message, 1)?;
-        Ok(code)
-    };
-    let answer = tests().map(|code| {
+    let answer = encodable(degree, message, cells).map(|code| {
         cells.copy_from_slice(&code.encode(message));
         []
     });
@@ -194,6 +187,42 @@ pub fn write_blocks(number: u16, cells: &[u8], file: &mut [u8]) -> u64 {
         []
     });
     answered(answer, &mut [])
+}
+
+/// "In the sheet encoded from a lent message." Tests 8 and 9 are "both after 4, in that order".
+pub fn load(
+    degree: u64,
+    seed: u64,
+    wrong: u64,
+    unsure: u64,
+    message: &[u8],
+    cells: &mut [u8],
+) -> u64 {
+    let tests = || {
+        let code = encodable(degree, message, cells)?;
+        if seed == 0 {
+            return Err(8);
+        }
+        if u128::from(wrong) + u128::from(unsure) > cells.len() as u128 {
+            return Err(9);
+        }
+        Ok(code)
+    };
+    let answer = tests().map(|code| {
+        let sent = code.encode(message);
+        cells.copy_from_slice(&loads::hit(seed, wrong as usize, unsure as usize, &sent));
+        []
+    });
+    answered(answer, &mut [])
+}
+
+/// The code with which a message is encoded into these cells, after the tests 1, 3 and 4.
+fn encodable(degree: u64, message: &[u8], cells: &[u8]) -> Result<&'static Code, Refused> {
+    let code = code_of(degree)?;
+    let (n, k) = (code.n(), code.degree.k());
+    test_lengths(&[(message.len(), k * k), (cells.len(), n * n)])?;
+    test_cells(message, 1)?;
+    Ok(code)
 }
 
 /// Test 1.

@@ -552,3 +552,136 @@ fn lengths_of_lent_slices_come_before_the_file() {
     assert_eq!(read_blocks(&file, &mut cells, &mut report), 0);
     assert!(report == [1] && cells == [2; 4096]);
 }
+
+/// The first draw of seed 1 by hand: s goes to 0x2001, 0x2041 and 0x40822041, to which w is added. The others are of a program in
+/// another language.
+#[test]
+fn draws_are_known() {
+    let first = 0x4082_2041 + 0x9E37_79B9_7F4A_7C15;
+    for (seed, drawn, thousandth) in [
+        (1, [first, 0x4c6f34790a960c6b], 0xa73e9fbf03e7ea35),
+        (
+            2,
+            [0x9e3779ba004ebc97, 0x5c6f757f169520ad],
+            0x975fbc3b5abff29b,
+        ),
+        (
+            1 << 63,
+            [0x1f3779b97f4a7c15, 0xbc70f372fe94f82a],
+            0xe13568e82219dd53,
+        ),
+        (
+            u64::MAX,
+            [0x9e3779b9beca9bd5, 0x4c6eb3710293e829],
+            0xe216ffa331346eb9,
+        ),
+    ] {
+        assert_eq!(load::draws(seed).take(2).collect::<Vec<u64>>(), drawn);
+        assert_eq!(load::draws(seed).nth(999), Some(thousandth));
+    }
+}
+
+/// The places in front, the last one, and the sum of each place times where it is, counted from 1; of that program too. The last
+/// one is the first draw modulo the number of cells: 0x56 of 256 with seed 1.
+#[test]
+fn shuffled_places_are_known() {
+    let table = [
+        (Degree::Four, 1, [227, 105, 232, 37], 0x56, 4152391),
+        (Degree::Four, 20, [74, 230, 80, 46], 41, 4217134),
+        (Degree::Six, 1, [1083, 281, 48, 476], 3158, 17227484109),
+        (Degree::Six, 20, [4082, 636, 1247, 1157], 297, 17273304827),
+        (
+            Degree::Seven,
+            1,
+            [16219, 11365, 7238, 7210],
+            7254,
+            1102695293733,
+        ),
+        (
+            Degree::Seven,
+            20,
+            [15754, 13740, 671, 11913],
+            297,
+            1099469289153,
+        ),
+    ];
+    for (degree, seed, front, last, sum) in table {
+        let places = load::shuffled(seed, degree.n() * degree.n());
+        assert_eq!(places[..4], front);
+        assert_eq!(places.last(), Some(&last));
+        let times_place = |(at, place): (usize, &usize)| (at + 1) * place;
+        assert_eq!(
+            places.iter().enumerate().map(times_place).sum::<usize>(),
+            sum
+        );
+    }
+}
+
+/// "The shuffle holds each place a single time, so exactly D and E cells are hit."
+#[test]
+fn exactly_so_many_cells_are_hit() {
+    let mut random = Random::new(11);
+    for degree in Degree::ALL {
+        let all = degree.n() * degree.n();
+        let sent = damage::sent(Code::of(degree), &mut random);
+        for (wrong, unsure) in [
+            (0, 0),
+            (1, 0),
+            (0, 1),
+            (7, 30),
+            (all, 0),
+            (0, all),
+            (100, all - 100),
+        ] {
+            let seed = random.word();
+            let mut places = load::shuffled(seed, all);
+            places.sort_unstable();
+            assert!(places.into_iter().eq(0..all));
+            let cells = load::hit(seed, wrong, unsure, &sent);
+            assert_eq!(erasures(&cells), unsure);
+            assert_eq!(known_differences(&cells, &sent), wrong);
+        }
+    }
+}
+
+/// Wrong and unsure cells together below the condition for one row: decoding gives what was sent.
+#[test]
+fn a_light_load_is_mended() {
+    let mut random = Random::new(12);
+    for degree in Degree::ALL {
+        let (code, n) = (Code::of(degree), degree.n());
+        for (wrong, unsure) in [(2, 1), (1, 3), (0, 5)] {
+            let sent = damage::sent(code, &mut random);
+            let received = load::hit(random.word(), wrong, unsure, &sent);
+            let (cells, report) = code.decode(1, &received, &vec![0; 4 * n]);
+            assert!(report.closed && cells == sent);
+        }
+    }
+}
+
+#[test]
+fn the_seed_and_the_sum_are_tested_after_the_cells_in_that_order() {
+    let (good, bad) = (vec![1u8; 49], vec![2u8; 49]);
+    let mut cells = vec![9u8; 256];
+    let mut call = |degree, seed, [wrong, unsure]: [u64; 2], message: &[u8], length: usize| {
+        let refusal = entries::load(degree, seed, wrong, unsure, message, &mut cells[..length]);
+        (refusal, cells.iter().all(|&cell| cell == 9))
+    };
+    let many = [200, 57];
+    assert_eq!(call(5, 0, many, &bad, 255), (1, true));
+    assert_eq!(call(4, 0, many, &bad, 255), (3, true));
+    assert_eq!(call(4, 0, many, &bad[1..], 256), (3, true));
+    assert_eq!(call(4, 0, many, &bad, 256), (4, true));
+    assert_eq!(call(4, 0, many, &good, 256), (8, true));
+    for too_many in [
+        many,
+        [257, 0],
+        [0, 257],
+        [u64::MAX, 1],
+        [1 << 63; 2],
+        [u64::MAX; 2],
+    ] {
+        assert_eq!(call(4, 1, too_many, &good, 256), (9, true));
+    }
+    assert_eq!(call(4, 1, [200, 56], &good, 256), (0, false));
+}
