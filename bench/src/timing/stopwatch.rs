@@ -29,6 +29,23 @@ impl Setting {
             iterations,
         }
     }
+
+    /// A received array, of a message and a seed that are drawn.
+    fn received(&self, random: &mut Random) -> Vec<u8> {
+        let (n, k) = (self.degree.n(), self.degree.k());
+        let (message, seed) = (random.bits(k * k), random.word().max(1));
+        let mut cells = vec![0; n * n];
+        pugdrel::load(
+            self.degree.number(),
+            seed,
+            self.wrong as u64,
+            self.unsure as u64,
+            &message,
+            &mut cells,
+        )
+        .expect("these loads are not refused");
+        cells
+    }
 }
 
 /// What is timed.
@@ -59,13 +76,10 @@ pub struct Load {
 }
 
 impl Load {
-    /// Arrays of one setting.
+    /// Arrays of one setting, loaded by the library: a message and a seed are drawn for each, so that settings that differ in the
+    /// wrong and unsure cells alone have the same messages and the same order of places.
     pub fn new(setting: Setting, arrays: usize, random: &mut Random) -> Load {
-        let code = Code::of(setting.degree);
-        let received = |random: &mut Random| {
-            let sent = damage::sent(code, random);
-            damage::hit(&sent, setting.wrong, setting.unsure, random)
-        };
+        let received = |random: &mut Random| setting.received(random);
         Load::of(received, setting.degree, setting.iterations, arrays, random)
     }
 
@@ -244,4 +258,38 @@ fn processor_seconds() -> Option<f64> {
 pub fn median(mut values: Vec<f64>) -> f64 {
     values.sort_by(f64::total_cmp);
     values[values.len() / 2]
+}
+
+#[cfg(test)]
+mod tests {
+    use super::*;
+    use crate::plain;
+
+    /// A run has the same arrays wherever W-204 is done as it is written.
+    #[test]
+    fn arrays_are_those_of_the_plain_load() {
+        let setting = Setting::new(Degree::Six, 40, 60, 1);
+        let load = Load::new(setting, 3, &mut Random::new(1));
+        let mut random = Random::new(1);
+        for (received, _) in &load.arrays {
+            let (message, seed) = (random.bits(51 * 51), random.word());
+            let mut expected = vec![9; 64 * 64];
+            let refusal = plain::entries::load(6, seed, 40, 60, &message, &mut expected);
+            assert!(refusal == 0 && *received == expected);
+        }
+    }
+
+    #[test]
+    fn settings_with_other_hits_have_the_same_messages_and_places() {
+        let arrays = |wrong, unsure| {
+            let setting = Setting::new(Degree::Four, wrong, unsure, 1);
+            Load::new(setting, 4, &mut Random::new(2)).arrays
+        };
+        let (sent, few, many) = (arrays(0, 0), arrays(3, 5), arrays(3, 50));
+        for ((sent, few), many) in sent.iter().zip(&few).zip(&many) {
+            let hit = |cells: &[u8], place: usize| cells[place] != sent.0[place];
+            assert_eq!((0..256).filter(|&place| hit(&few.0, place)).count(), 8);
+            assert!((0..256).all(|place| !hit(&few.0, place) || few.0[place] == many.0[place]));
+        }
+    }
 }
