@@ -12,10 +12,10 @@ const CRATE: &str = "pugdrel";
 
 const VARIABLE: &str = "PUGDREL_LIB";
 
-/// The source in C, from here.
-const C_SOURCE: &str = "c/blocks.c";
+/// The sources in C, of the folder `c`, without their ending.
+const C_SOURCES: [&str; 2] = ["blocks", "load"];
 
-/// The variable that names another compiler for it than `cc`.
+/// The variable that names another compiler for them than `cc`.
 const COMPILER: &str = "CC";
 
 fn main() {
@@ -43,15 +43,13 @@ fn link_library() {
 /// Compiles what is in C as an optimised program is, and makes a library of it.
 fn link_c() {
     println!("cargo:rerun-if-env-changed={COMPILER}");
-    println!("cargo:rerun-if-changed={C_SOURCE}");
     let named = env::var(COMPILER).unwrap_or_default();
     let compiler = if named.is_empty() { "cc" } else { &named };
     let made_in = PathBuf::from(env::var_os("OUT_DIR").unwrap_or_default());
-    let (object, library) = (made_in.join("blocks.o"), made_in.join("libin_c.a"));
-    let warnings = "-Wall -Wextra -Wpedantic";
-    let compile = format!("{compiler} -std=c99 -O2 -fPIC {warnings} -c {C_SOURCE} -o");
-    run(&compile, &[&object]);
-    run("ar crs", &[&library, &object]);
+    let objects = C_SOURCES.map(|source| compiled(compiler, source, &made_in));
+    let mut library = vec![made_in.join("libin_c.a")];
+    library.extend(objects);
+    run("ar crs", &library);
     println!("cargo:rustc-link-search=native={}", made_in.display());
     println!("cargo:rustc-link-lib=static=in_c");
     // What is timed beside the library depends on who compiled it, so that the bench says it.
@@ -60,8 +58,21 @@ fn link_c() {
     println!("cargo:rustc-env=C_COMPILER={first}, -O2");
 }
 
+/// The object file of one source.
+fn compiled(compiler: &str, source: &str, made_in: &Path) -> PathBuf {
+    let (file, object) = (
+        format!("c/{source}.c"),
+        made_in.join(source).with_extension("o"),
+    );
+    println!("cargo:rerun-if-changed={file}");
+    let warnings = "-Wall -Wextra -Wpedantic";
+    let compile = format!("{compiler} -std=c99 -O2 -fPIC {warnings} -c {file} -o");
+    run(&compile, std::slice::from_ref(&object));
+    object
+}
+
 /// Runs a command of these words and paths, and gives what it prints.
-fn run(words: &str, paths: &[&Path]) -> String {
+fn run(words: &str, paths: &[PathBuf]) -> String {
     let mut words = words.split_whitespace();
     let program = words.next().unwrap_or_default();
     let ended = Command::new(program).args(words).args(paths).output();
@@ -79,7 +90,7 @@ fn run(words: &str, paths: &[&Path]) -> String {
         }
         Err(why) => format!("{program} does not run ({why})"),
     };
-    eprintln!("{C_SOURCE} of the bench could not be compiled: {why}.");
+    eprintln!("What the bench has in C could not be compiled: {why}.");
     eprintln!("It needs a C compiler, cc or the one that {COMPILER} names, and ar.");
     process::exit(1);
 }

@@ -1,13 +1,12 @@
 //! The command `blocks`: the library's reader and writer of the recorder's files beside those in C and in plain Rust.
 
 use std::hint::black_box;
-use std::time::{Duration, Instant};
+use std::time::Instant;
 
 use crate::arguments::{Arguments, Failure};
-use crate::machine::Machine;
 use crate::plain::blocks::{CELLS, FILE};
 use crate::random::Random;
-use crate::timing::stopwatch::median;
+use crate::turns::{Run, Turns, warm_up};
 use crate::{damage, in_c, plain, pugdrel};
 use plain::{Code, Degree};
 
@@ -18,32 +17,19 @@ const FILES: usize = 64;
 const WRONG: usize = 40;
 const UNSURE: usize = 60;
 
-/// What compiled the C: another compiler may make it twice as fast, or half.
-const COMPILER: &str = env!("C_COMPILER");
-
-/// Nanoseconds of a second.
-const NANO: f64 = 1e9;
-
-pub fn blocks(mut arguments: Arguments) -> Result<(), Failure> {
-    let rounds: usize = arguments.option("rounds", 501)?;
-    let seed: u64 = arguments.option("seed", 1)?;
-    arguments.end()?;
-    if rounds == 0 {
-        return Err("there must be at least one round".into());
-    }
-    let machine = Machine::watch();
-    let sheets = sheets(&mut Random::new(seed));
-    warm_up(&sheets);
+pub fn blocks(arguments: Arguments) -> Result<(), Failure> {
+    let run = Run::of("blocks", 501, arguments)?;
+    let sheets = sheets(&mut run.random());
+    warm_up(|| {
+        Work::Read.turn(Maker::Library, &sheets);
+        Work::Write.turn(Maker::C, &sheets);
+    });
     println!("| | library, ns a byte | C, ns a byte | plain, ns a byte | library / C |");
     println!("|{}", "---|".repeat(5));
     for work in [Work::Read, Work::Write] {
-        Times::of(work, &sheets, rounds).print(work);
+        work.print(&work.turns(&sheets, run.rounds));
     }
-    println!();
-    println!(
-        "From `bench blocks --rounds {rounds} --seed {seed}`, C by {COMPILER}: {}.",
-        machine.text()
-    );
+    run.print_source();
     Ok(())
 }
 
@@ -127,45 +113,17 @@ impl Work {
         }
         start.elapsed().as_secs_f64()
     }
-}
 
-/// Works for half a second and forgets how long that took: a processor that was idle is slow at first.
-fn warm_up(sheets: &[Sheet]) {
-    let began = Instant::now();
-    while began.elapsed() < Duration::from_millis(500) {
-        Work::Read.turn(Maker::Library, sheets);
-        Work::Write.turn(Maker::C, sheets);
-    }
-}
-
-/// Medians over the rounds.
-struct Times {
-    /// Seconds of a turn of each maker.
-    turns: [f64; Maker::ALL.len()],
-    library_by_c: f64,
-}
-
-impl Times {
-    /// The makers take turns, each with all sheets. A turn is far shorter than the time for which a busy machine puts a process
-    /// aside, so that few are interrupted, and the medians are not moved by those.
-    fn of(work: Work, sheets: &[Sheet], rounds: usize) -> Times {
-        let round = |_| Maker::ALL.map(|maker| work.turn(maker, sheets));
-        let rounds: Vec<[f64; Maker::ALL.len()]> = (0..rounds).map(round).collect();
-        let of_maker = |maker: usize| median(rounds.iter().map(|turns| turns[maker]).collect());
-        let ratio = |[library, c, _]: &[f64; Maker::ALL.len()]| library / c;
-        Times {
-            turns: [0, 1, 2].map(of_maker),
-            library_by_c: median(rounds.iter().map(ratio).collect()),
-        }
+    fn turns(self, sheets: &[Sheet], rounds: usize) -> Turns<{ Maker::ALL.len() }> {
+        Turns::of(Maker::ALL, rounds, |maker| self.turn(maker, sheets))
     }
 
-    fn print(&self, work: Work) {
-        let bytes = (FILES * FILE) as f64;
-        let [library, c, plain] = self.turns.map(|seconds| NANO * seconds / bytes);
+    fn print(self, turns: &Turns<{ Maker::ALL.len() }>) {
+        let [library, c, plain] = turns.nanoseconds(FILES * FILE);
+        let library_by_c = turns.first_by(Maker::C as usize);
         println!(
-            "| {} | {library:.3} | {c:.3} | {plain:.3} | {:.2} |",
-            work.name(),
-            self.library_by_c
+            "| {} | {library:.3} | {c:.3} | {plain:.3} | {library_by_c:.2} |",
+            self.name()
         );
     }
 }
@@ -191,8 +149,9 @@ mod tests {
     fn every_turn_takes_time() {
         let sheets = sheets(&mut Random::new(2));
         for work in [Work::Read, Work::Write] {
-            let times = Times::of(work, &sheets, 3);
-            assert!(times.turns.iter().all(|&seconds| seconds > 0.0) && times.library_by_c > 0.0);
+            let turns = work.turns(&sheets, 3);
+            assert!(turns.nanoseconds(1).iter().all(|&time| time > 0.0));
+            assert!(turns.first_by(Maker::C as usize) > 0.0);
         }
     }
 }

@@ -7,8 +7,11 @@
 //! It comes in two forms. One makes every decoding that document 01 counts, each from its whole word, as the library
 //! does: with it the library is to be compared. The other passes over the decodings whose outcome is known, and so says
 //! what a decoder could save whose count need not stand for decodings made.
+//!
+//! [`load`] has the damage of W-204 for speed as well.
 
 mod bits;
+pub mod load;
 mod messages;
 mod tables;
 mod word;

@@ -1,6 +1,7 @@
-//! The reader and the writer of the recorder's files in `c/blocks.c`, for safe Rust: what the library is timed beside.
+//! What the library is timed beside, for safe Rust: the reader and the writer of the recorder's files in `c/blocks.c`, and the
+//! damage of a load in `c/load.c`.
 //!
-//! They have the shape of the library's entries, and ask as little of their caller.
+//! The first two have the shape of the library's entries. All ask as little of their caller.
 
 /// Reports the sheet's number.
 pub fn read_blocks(file: &[u8], cells: &mut [u8], report: &mut [u64]) -> u64 {
@@ -32,6 +33,12 @@ pub fn write_blocks(number: u16, cells: &[u8], file: &mut [u8]) -> u64 {
     }
 }
 
+/// Inverts `wrong` cells of an array that was encoded and makes `unsure` others unsure.
+pub fn damage(seed: u64, wrong: u64, unsure: u64, cells: &mut [u8]) -> u64 {
+    // SAFETY: as in `read_blocks`; the function writes to places below the length alone.
+    unsafe { in_c_damage(seed, wrong, unsure, cells.as_mut_ptr(), cells.len()) }
+}
+
 unsafe extern "C" {
     fn in_c_read_blocks(
         file: *const u8,
@@ -49,6 +56,8 @@ unsafe extern "C" {
         file: *mut u8,
         file_len: usize,
     ) -> u64;
+
+    fn in_c_damage(seed: u64, wrong: u64, unsure: u64, cells: *mut u8, cells_len: usize) -> u64;
 }
 
 #[cfg(test)]

@@ -5,7 +5,7 @@
 use std::process::ExitCode;
 
 use pugdrel_bench::arguments::{Arguments, Failure};
-use pugdrel_bench::{blocks, conformance, malformed, picture, simulate, times, timing};
+use pugdrel_bench::{blocks, conformance, load, malformed, picture, simulate, times, timing};
 
 const USAGE: &str = "\
 bench COMMAND
@@ -18,6 +18,7 @@ bench COMMAND
   times [--arrays N] [--rounds R] [--seed S]
                                        microseconds of one decoding on this machine
   blocks [--rounds R] [--seed S]       the reader and the writer of the recorder's files beside those in C and in Rust
+  load [--rounds R] [--seed S]         the load of a sheet from a seed beside those in C and in Rust
   simulate [--degree D] [--arrays N] [--failures F] [--seed S] [--from DB] [--to DB] [--step DB] [--probe DB] [--plots DIR]
                                        a receiver behind Gaussian noise: bit error rates and decodings
   picture RECEIVED SENT OUT            an SVG of the array in the file RECEIVED and of what the library makes of it
@@ -42,6 +43,7 @@ fn run() -> Result<(), Failure> {
         "timing" => timing::timing(arguments),
         "times" => times::times(arguments),
         "blocks" => blocks::blocks(arguments),
+        "load" => load::load(arguments),
         "simulate" => simulate::simulate(arguments),
         "picture" => picture::picture(arguments),
         _ => Err(USAGE.into()),
