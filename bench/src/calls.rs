@@ -407,3 +407,28 @@ fn resize<T: Copy + Default>(cells: &mut Vec<T>, random: &mut Random) {
     };
     cells.resize(other, T::default());
 }
+
+#[cfg(test)]
+mod tests {
+    use super::*;
+    use crate::call::Side;
+
+    #[test]
+    fn loads_are_taken_and_refused_by_every_test() {
+        let mut random = Random::new(1);
+        let mut mixes = Mix::ALL.into_iter();
+        let mix = mixes.find(|mix| mix.has(Entry::Load)).unwrap();
+        let (mut refusals, mut wrapping) = ([0; 10], 0);
+        for _ in 0..600 {
+            let call = random_call(&mix, &mut random);
+            let refusal = call.run(Side::Plain).refusal;
+            refusals[refusal as usize] += 1;
+            let wrapped = call.wrong.wrapping_add(call.unsure);
+            wrapping += u64::from(refusal == 9 && wrapped <= call.output.len() as u64);
+        }
+        let seen = [0, 1, 3, 4, 8, 9].map(|number| refusals[number]);
+        assert!(seen.iter().all(|&count| count > 20), "{refusals:?}");
+        assert_eq!(seen.iter().sum::<u64>(), 600);
+        assert!(wrapping > 5, "{wrapping} sums wrap to few");
+    }
+}
