@@ -358,12 +358,15 @@ fn add_fault(call: &mut Call, random: &mut Random) {
     }
 }
 
-/// Wrong and unsure cells that are together more than these: one more, in any parts, or so many that a sum of 64 bits wraps to
-/// few.
+/// Wrong and unsure cells that are together more than these: mostly one more, in any parts, or so many that a sum of 64 bits wraps
+/// to few.
 fn too_many(cells: u64, random: &mut Random) -> (u64, u64) {
     let part = random.between(0, cells as usize) as u64;
+    let one_more = (part, cells + 1 - part);
     let (one, other) = random.pick(&[
-        (part, cells + 1 - part),
+        one_more,
+        one_more,
+        one_more,
         (cells, cells),
         (part, u64::MAX),
         (u64::MAX - part, part + 1),
@@ -371,11 +374,7 @@ fn too_many(cells: u64, random: &mut Random) -> (u64, u64) {
         (1 << 32, 1 << 32),
         (u64::MAX, u64::MAX),
     ]);
-    if random.one_in(2) {
-        (one, other)
-    } else {
-        (other, one)
-    }
+    random.pick(&[(one, other), (other, one)])
 }
 
 /// Row numbers around n, and far beyond it.
