@@ -394,7 +394,7 @@ fn the_acceptance_run_gives_its_numbers() {
     }
 }
 
-/// The places that a seed hits first, reckoned by a program in another language: two are inverted, the next two unsure.
+/// The places that a seed hits first, reckoned by a program in another language: some are inverted, the next ones unsure.
 #[test]
 fn a_load_hits_known_places() {
     for ((degree, n, k), places) in DEGREES.into_iter().zip([
@@ -402,16 +402,14 @@ fn a_load_hits_known_places() {
         [4082, 636, 1247, 1157],
         [15754, 13740, 671, 11913],
     ]) {
-        let mut expected = vec![0; n * n];
-        places[..2]
-            .iter()
-            .for_each(|&place: &usize| expected[place] = 1);
-        places[2..]
-            .iter()
-            .for_each(|&place: &usize| expected[place] = UNSURE);
-        let mut cells = vec![9; n * n];
-        pugdrel::load(degree, 20, 2, 2, &vec![0; k * k], &mut cells).unwrap();
-        assert!(cells == expected, "degree {degree}");
+        for wrong in 0..=places.len() {
+            let (inverted, unsure) = places.split_at(wrong);
+            let expected = line_of(n * n, inverted, unsure);
+            let (message, mut cells) = (vec![0; k * k], vec![9; n * n]);
+            let [wrong, unsure] = [inverted, unsure].map(|places| places.len() as u64);
+            pugdrel::load(degree, 20, wrong, unsure, &message, &mut cells).unwrap();
+            assert!(cells == expected, "degree {degree}, {wrong} wrong");
+        }
     }
 }
 

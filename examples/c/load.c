@@ -79,11 +79,13 @@ static void acceptance_run(const struct code *code, const struct numbers *of_cod
 
 /* ---- Single sheets: which cells are hit, and how many. */
 
-/* The first five places in the order of a seed. */
-static const struct {
+/* The first places in the order of a seed. */
+#define FIRST 5
+
+static const struct order {
     const struct code *code;
     uint64_t seed;
-    size_t first[5];
+    size_t first[FIRST];
 } orders[] = {
     {&codes[0], 1, {227, 105, 232, 37, 109}},
     {&codes[0], 20, {74, 230, 80, 46, 76}},
@@ -96,21 +98,26 @@ static const struct {
     {&codes[2], UINT64_MAX, {970, 7635, 14740, 11967, 8780}},
 };
 
-/* Three cells are inverted and the next two unsure, in a sheet of zeros. */
+/* In a sheet of zeros, so many of the first places are inverted and the others of them unsure. */
+static void hits_first(const struct order *order, size_t wrong)
+{
+    const struct code *code = order->code;
+    const size_t all = code->n * code->n, bits = code->k * code->k;
+    size_t i;
+    memset(message, 0, bits);
+    memset(sent, 0, all);
+    for (i = 0; i < FIRST; i++) sent[order->first[i]] = i < wrong ? 1 : 2;
+    memset(received, 9, sizeof received);
+    check(pugdrel_load(code->degree, order->seed, wrong, FIRST - wrong, message, bits, received, all) == PUGDREL_OK,
+          "a sheet of zeros is loaded");
+    check(memcmp(received, sent, all) == 0 && received[all] == 9, "the first places of its seed are hit, in their order");
+}
+
 static void known_places(void)
 {
-    size_t o, i;
-    memset(message, 0, sizeof message);
-    for (o = 0; o < sizeof orders / sizeof *orders; o++) {
-        const struct code *code = orders[o].code;
-        const size_t all = code->n * code->n;
-        memset(sent, 0, all);
-        for (i = 0; i < 5; i++) sent[orders[o].first[i]] = i < 3 ? 1 : 2;
-        memset(received, 9, sizeof received);
-        check(pugdrel_load(code->degree, orders[o].seed, 3, 2, message, code->k * code->k, received, all) == PUGDREL_OK,
-              "a sheet of zeros is loaded");
-        check(memcmp(received, sent, all) == 0 && received[all] == 9, "the first five places of its seed are hit");
-    }
+    size_t i, wrong;
+    for (i = 0; i < sizeof orders / sizeof *orders; i++)
+        for (wrong = 0; wrong <= FIRST; wrong++) hits_first(&orders[i], wrong);
 }
 
 /* A load hits exactly so many cells, and the others are those of the array that encoding gives. */
