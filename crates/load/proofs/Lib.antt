@@ -9,3 +9,4 @@ mod ShuffleLoop
 pub mod EntryLaws
 mod Making
 pub mod Examples
+pub mod Acceptance

@@ -14,6 +14,7 @@ use Rattle.degree.specs.declared.Degree.{Degree}
 use Rattle.degree.specs.declared.Named.the-variants.{Known}
 use Rattle.degree.specs.Degree.{bits, size, named}
 use Rattle.line.specs.declared.refusals.Refusal.{Refusal}
+use Rattle.line.specs.declared.refusals.Refusal.the-variants.{BadSeed, TooMany}
 use Rattle.line.specs.declared.refusals.Call.{Call}
 use Rattle.line.specs.Refusals.{number, refusal}
 use Rattle.line.specs.working.Calls.{Tested}
@@ -28,6 +29,17 @@ sum-above area wrong unsure {sum} ha hw hu e =
     dite (decLt (wrong + unsure) (2 ^ 64))
     (λ l. let s : sum ≡ wrong + unsure = omega arith in rw (s, le-ltb (wrong + unsure) wrong (omega arith)))
     (λ l. rw (lt-ltb sum wrong (omega arith), lt-ltb area (wrong + unsure) (omega arith)))
+
+-- tests 8 and 9, by what was found
+module _ (none many : Bool) where
+  pub seed-refused : none ≡ true → number BadSeed ≡ refusal ((8, none) ∷ (9, many) ∷ [])
+  seed-refused h = rw h
+
+  pub many-refused : none ≡ false → many ≡ true → number TooMany ≡ refusal ((8, none) ∷ (9, many) ∷ [])
+  many-refused h l = rw (h, l)
+
+  pub none-refused : none ≡ false → many ≡ false → refusal ((8, none) ∷ (9, many) ∷ []) ≡ 0
+  none-refused h l = rw (h, l)
 
 module _ (degree seed wrong unsure : ℕ) (message cells : List ℕ) where
   abbrev Before : List (ℕ × Bool)

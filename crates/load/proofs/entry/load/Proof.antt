@@ -1,5 +1,6 @@
 -- `entry::load` meets its contract: the tests of a taken call say that what is lent is of the right form.
 -- Assumes nothing.
+use native.Mathlib.Omega.{arith}
 use Rattle.load.proofs.EntryLaws.{load-ready, loaded-taken, loaded-refused}
 use borrow.Author.Needs.{needs}
 use Rattle.load.proofs.entry.load.Statement.{statement}
@@ -15,8 +16,9 @@ load-taken-requires : tie.Need-load-taken-requires
 load-taken-requires c κs =
     let q = c .before .before in
     let s = q .before .before .before .before .before .before .args in
-    load-ready (s .degree) (s .seed) (s .wrong) (s .unsure) (s .message .now) (s .cells .now) (q .call .given .0 .0)
-    (rw (q .call .given .1) at (q .before .before .load-test .ensures))
+    let t =
+    load-ready (s .degree) (s .seed) (s .wrong) (s .unsure) (s .message .now) (s .cells .now) (q .call .given .0 .0) (rw (q .call .given .1) at (q .before .before .load-test .ensures)) in
+    (t .0, t .1, omega (arith, t .2))
 
 enum-known-call-2 : tie.Need-enum-known-call-2
 enum-known-call-2 c = search needs

@@ -1,12 +1,13 @@
 -- `refusals::hits_test` meets its contract: 8 is tested before 9.
 -- Assumes nothing.
-use mathlib.Core.Path.{_≡_, sym}
+use mathlib.Core.Path.{_≡_, sym, _∙_}
 use Prim.Native.Nat.{_+_, _*_}
 use native.Mathlib.Omega.{arith}
 use lib.Dec.{ltb}
 use Rattle.degree.specs.Degree.{size}
 use Rattle.line.proofs.Bounds.{square-le, size-le}
 use Rattle.line.proofs.Refusing.{bits-named}
+use Rattle.load.proofs.Refusing.{seed-refused, many-refused, none-refused}
 use borrow.Author.Needs.{needs}
 use Rattle.load.proofs.refusals.hits_test.Statement.{statement}
 use Rattle.load.proofs.refusals.hits_test.Tie as tie
@@ -25,17 +26,17 @@ above : (q : tie.After-are-above) → ltb (size (q .before .before .args .d) * s
 above q = rw (← (q .before .size-of .ensures)) (sym (q .are-above .ensures))
 
 returns : tie.Need-returns
-returns c = rw (c .if1 .taken)
+returns c =
+    let s = c .before .before .before .args in
+    seed-refused _ (ltb (size (s .d) * size (s .d)) (s .wrong + s .unsure)) (c .if1 .taken)
 
 returns-2 : tie.Need-returns-2
-returns-2 c =
-    let q = c .before .before in
-    rw (c .before .if1 .left, above q, c .if2 .taken)
+returns-2 c = many-refused _ _ (c .before .if1 .left) (above (c .before .before) ∙ c .if2 .taken)
 
 returns-3 : tie.Need-returns-3
 returns-3 c =
     let q = c .before .before in
-    (rw (c .before .if1 .left, above q, c .if2 .left), bits-named (q .before .before .args .d))
+    (none-refused _ _ (c .before .if1 .left) (above q ∙ c .if2 .left), bits-named (q .before .before .args .d))
 
 pub hits-test-spec : {M : Type 1} → statement M
 hits-test-spec =
