@@ -4,7 +4,7 @@ use degree::Degree;
 use degree::size_of;
 use line::encoding::UnitTable;
 use line::encoding::encoded_word;
-use line::encoding::unit_table;
+use line::encoding::put_unit_table;
 use line::packed::Line;
 use line::refusals::Call;
 use line::refusals::number_of;
@@ -68,7 +68,8 @@ pub fn encode_array(d: Degree, message: &[u8], cells: &mut [u8])
     requires { ⌜ IsWord (messageSize d * messageSize d) (now message) × (length (now cells) ≡ size d * size d) ⌝ }
     ensures { λ _. ⌜ now (cells .exit) ≡ encodeArray d (now (message .entry)) ⌝ }
 {
-    let units = unit_table(d);
+    let mut units: UnitTable = [0; GRID];
+    put_unit_table(d, &mut units);
     let mut words: Grid = [0; GRID];
     encode_rows(d, &units, message, &mut words);
     let n = size_of(d);

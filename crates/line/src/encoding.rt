@@ -2,7 +2,6 @@
 use crate::packed::Line;
 use degree::Degree;
 use words::word::Word;
-use words::word::grid::GRID;
 use words::word::grid::Grid;
 use words::word::grid::put_word;
 use words::word::grid::word_in;
@@ -224,26 +223,25 @@ fn put_units(d: Degree, checks: &[u16], table: &mut [u64])
     }
 }
 
-// The table of a degree. Each arm makes its own short table of check cells, so that no table is chosen by value.
-pub fn unit_table(d: Degree) -> UnitTable
-    ensures { λ r. ⌜ Units d r ⌝ }
+// The table of a degree, made in place. Each arm makes its own short table of check cells, so that no table is chosen by value.
+pub fn put_unit_table(d: Degree, table: &mut [u64])
+    requires { ⌜ length (now table) ≡ gridSize ⌝ }
+    ensures { λ _. ⌜ Units d (now (table .exit)) ⌝ }
 {
-    let mut table = [0; GRID];
     match d {
         Degree::Four => {
             let checks = CHECKS_FOUR;
-            put_units(d, &checks, &mut table);
+            put_units(d, &checks, table);
         }
         Degree::Six => {
             let checks = CHECKS_SIX;
-            put_units(d, &checks, &mut table);
+            put_units(d, &checks, table);
         }
         Degree::Seven => {
             let checks = CHECKS_SEVEN;
-            put_units(d, &checks, &mut table);
+            put_units(d, &checks, table);
         }
     }
-    table
 }
 
 // A message, encoded: the sum of the units at its ones.
