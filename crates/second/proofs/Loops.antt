@@ -3,11 +3,11 @@
 use mathlib.Core.Path.{_≡_, ap, ap₂, _∙_}
 use mathlib.Core.Bool.{Bool, true, false}
 use mathlib.Core.List.{List}
-use Prim.Native.Nat.{ℕ, _+_, _-_, _%_}
+use Prim.Native.Nat.{ℕ, suc, _+_, _-_, _%_}
 use native.Mathlib.Omega.{arith}
 use native.Mathlib.Numerals.{add-one}
 use lib.Bits.{bitXor}
-use lib.ListN.{set}
+use lib.ListN.{getD, set}
 use Rattle.laws.specs.Sums.{sumTo}
 use Rattle.laws.specs.Tests.{every}
 use Rattle.second.specs.working.Codes.{timesAlpha, powerOf}
@@ -15,6 +15,7 @@ use Rattle.second.specs.working.Arrays.{takenLine, withLine}
 use Rattle.second.specs.working.Encoding.{coefficientOf, divided, remainderOf, encodedLine, encodedTo}
 use Rattle.second.specs.working.Loops.{written, xored}
 use Rattle.second.specs.working.Blocks.{sumA, sumB, withSums, summed}
+use Rattle.second.specs.working.Loads.{shifted, shiftedTimes, changed, changedTo}
 
 -- one number more is written
 pub written-next : (p g : ℕ → ℕ) (k : ℕ) (m : List ℕ) {l : List ℕ} → l ≡ written p g k m → set l (p k) (g k) ≡ written p g (k + 1) m
@@ -64,6 +65,16 @@ tested-all f k n e h = h ∙ ap (every f) e
 pub summed-next : (k : ℕ) (m : List ℕ) {l : List ℕ} → l ≡ summed k m → withSums k l ≡ summed (k + 1) m
 unfolding summed
 summed-next k m e = rw (add-one k) (ap (withSums k) e)
+
+-- one draw more
+pub shifted-next : (seed k : ℕ) {s : ℕ} → s ≡ shiftedTimes seed k → shifted s ≡ shiftedTimes seed (k + 1)
+unfolding shiftedTimes
+shifted-next seed k e = rw (add-one k) (ap shifted e)
+
+-- one place more changes
+pub changed-next : (draws : List ℕ) (k : ℕ) (m : List ℕ) {l : List ℕ} → l ≡ changedTo draws k m → changed (k + 1) (getD draws (k + 1) 0 % (k + 1 + 1)) l ≡ changedTo draws (k + 1) m
+unfolding changedTo
+changed-next draws k m e = rw (add-one k) (ap (changed (suc k) (getD draws (suc k) 0 % (suc k + 1))) e)
 
 -- what is found has not failed
 pub found-not : {A : Type 0} → true ≡ false → A

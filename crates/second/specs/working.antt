@@ -5,3 +5,4 @@ pub mod Arrays
 pub mod Encoding
 pub mod Tallies
 pub mod Blocks
+pub mod Loads

@@ -13,7 +13,7 @@ ghost use mathlib.Core.Path.{_≡_};
 ghost use mathlib.Core.Bool.{_&&_};
 ghost use lib.Dec.{eqb};
 ghost use Rattle.second.specs.working.Loops.{Below};
-ghost use Rattle.second.specs.working.Arrays.{placeOf, takenLine, withLine, badLines, unsureIn};
+ghost use Rattle.second.specs.working.Arrays.{allBelow, placeOf, takenLine, withLine, badLines, unsureIn};
 
 // The cells of an array: the first n times n count, and the others are 0.
 pub type Cells = [u8; 16384];
@@ -24,6 +24,18 @@ pub fn area_of(n: usize) -> usize
     ensures { λ r. ⌜ (r ≡ n * n) × (0 < r) × (r ≤ 16384) ⌝ }
 {
     n * n
+}
+
+// Is each cell below a bound?
+pub fn all_below(bound: u8, cells: &[u8]) -> bool
+    ensures { λ r. ⌜ r ≡ allBelow bound (now (cells .entry)) ⌝ }
+{
+    let long = cells.len();
+    let mut all = true;
+    for i in 0..long {
+        all = (cells[i] < bound) & all;
+    }
+    all
 }
 
 // The place of cell j of line i.

@@ -1,10 +1,11 @@
 // Sheets in blocks, read and written here anew from document 02. A degree 6 sheet is kept as three blocks of 512 bytes. Byte 0 is the
 // block's number, byte 1 is 6, bytes 2 and 3 are the sheet number; then come 31 rows of 16 bytes, ten bytes of zero, and two sums.
+use crate::arrays::all_below;
 ghost use Prim.Native.Nat.{_%_, _≤_, _<_};
 ghost use mathlib.Core.Path.{_≡_};
 ghost use lib.ListN.{length};
 ghost use Rattle.second.specs.working.Loops.{written};
-ghost use Rattle.second.specs.working.Blocks.{headByte, rowOf, packed, rowByte, blockByte, withBytes, byteIn, sumA, sumB, withSums, summed, allCells, headsRight, sumsRight, allSumsRight, noThree, rowByteRight, byteRight, allBytesRight, contentRefusal, readRefusal, writeRefusal, cellIn, fileCell, numberIn, ReadOrKept, WrittenOrKept};
+ghost use Rattle.second.specs.working.Blocks.{headByte, rowOf, packed, rowByte, blockByte, withBytes, byteIn, sumA, sumB, withSums, summed, headsRight, sumsRight, allSumsRight, noThree, rowByteRight, byteRight, allBytesRight, contentRefusal, readRefusal, writeRefusal, cellIn, fileCell, numberIn, ReadOrKept, WrittenOrKept};
 
 fn wide(byte: u8) -> u64
     ensures { λ r. ⌜ (r ≡ byte) × (r < 256) ⌝ }
@@ -134,18 +135,6 @@ pub fn sum_blocks(file: &mut [u8])
 
 // ---- the writer
 
-// Is each cell 0, 1 or 2?
-fn all_cells(cells: &[u8]) -> bool
-    ensures { λ r. ⌜ r ≡ allCells (now (cells .entry)) ⌝ }
-{
-    let long = cells.len();
-    let mut right = true;
-    for i in 0..long {
-        right = (cells[i] < 3) & right;
-    }
-    right
-}
-
 // All bytes, and then the sums of them.
 pub fn put_blocks(number: u64, cells: &[u8], file: &mut [u8])
     requires { ⌜ (length (now cells) ≡ 4096) × (1536 ≤ length (now file)) ⌝ }
@@ -163,7 +152,7 @@ pub fn write_blocks(number: u64, cells: &[u8], file: &mut [u8]) -> u64
         3
     } else if file.len() != 1536 {
         3
-    } else if all_cells(cells) {
+    } else if all_below(3, cells) {
         put_blocks(number, cells, file);
         0
     } else {

@@ -9,7 +9,7 @@ use crate::codewords::Line;
 use crate::lines::like;
 ghost use Prim.Native.Nat.{_+_, _-_, _*_, _/_, _%_, _≤_, _<_};
 ghost use mathlib.Core.Path.{_≡_};
-ghost use lib.ListN.{getD};
+ghost use lib.ListN.{length, getD};
 ghost use Rattle.second.specs.working.Loops.{written};
 ghost use Rattle.second.specs.working.Encoding.{firstOf, coefficientOf, divided, remainderOf, checkedLine, encodedLine, encodedTo, messageCells, messageArea, messagePlace};
 
@@ -128,6 +128,17 @@ fn message_place(n: usize, p: usize) -> usize
     let first = first_message_cell(n);
     let k = message_cells(n);
     ((first + p / k) * n + (first + p % k)) % 16384
+}
+
+// The array with a message in its message cells.
+pub fn put_message(n: usize, message: &[u8], cells: &mut Cells)
+    requires { ⌜ (15 < n) × (n ≤ 128) × (length (now message) ≡ messageArea n) ⌝ }
+    ensures { λ _. ⌜ now (cells .exit) ≡ written (messagePlace n) (λ p. getD (now (message .entry)) p 0) (messageArea n) (now (cells .entry)) ⌝ }
+{
+    let area = message_area(n);
+    for p in 0..area {
+        cells[message_place(n, p)] = message[p];
+    }
 }
 
 // Room for the longest message: the first k by k cells count.

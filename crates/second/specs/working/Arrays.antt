@@ -1,13 +1,21 @@
 -- Arrays of n by n cells, row after row: lines 0 to n - 1 are the rows, lines n to 2n - 1 the columns.
-use mathlib.Core.Bool.{cond, not}
+use mathlib.Core.Bool.{Bool, cond, not}
 use mathlib.Core.List.{List}
 use Prim.Native.Nat.{ℕ, _+_, _-_, _*_}
 use lib.Dec.{eqb, ltb}
-use lib.ListN.{getD, replicate}
+use lib.ListN.{length, getD, replicate}
 use Rattle.laws.specs.Sums.{sumTo}
+use Rattle.laws.specs.Tests.{every}
 use Rattle.second.specs.working.Codes.{syndromeOf}
 use Rattle.second.specs.working.Lines.{oneWhere, isLike}
 use Rattle.second.specs.working.Loops.{written}
+
+-- each cell is below a bound
+abbrev pub isBelow : (bound : ℕ) (cells : List ℕ) → ℕ → Bool
+isBelow bound cells i = ltb (getD cells i 0) bound
+
+unfoldable pub allBelow : (bound : ℕ) (cells : List ℕ) → Bool
+allBelow bound cells = every (isBelow bound cells) (length cells)
 
 -- the place of cell j of line i
 abbrev pub placeOf : (n i j : ℕ) → ℕ

@@ -7,6 +7,7 @@ use lib.Dec.{eqb, ltb}
 use lib.ListN.{length, getD, set}
 use Rattle.laws.specs.Tests.{every}
 use Rattle.second.specs.working.Loops.{written}
+use Rattle.second.specs.working.Arrays.{allBelow}
 
 -- bytes 0 to 3 of a block: its number, 6, and the sheet number, high byte first
 abbrev pub headByte : (number block p : ℕ) → ℕ
@@ -55,13 +56,6 @@ unfoldable pub summed : ℕ → List ℕ → List ℕ
 summed zero file = file
 summed (suc k) file = withSums k (summed k file)
 
--- the test of cells: each is 0, 1 or 2
-abbrev pub isCell : (cells : List ℕ) → ℕ → Bool
-isCell cells i = ltb (getD cells i 0) 3
-
-unfoldable pub allCells : (cells : List ℕ) → Bool
-allCells cells = every (isCell cells) (length cells)
-
 -- the sheet number of a file
 abbrev pub numberIn : (file : List ℕ) → ℕ
 numberIn file = 256 * getD file 2 0 + getD file 3 0
@@ -109,7 +103,7 @@ readRefusal long file = cond (eqb long 4096) (cond (eqb (length file) 1536) (con
 
 -- of a call that writes cells into so many bytes
 abbrev pub writeRefusal : (cells : List ℕ) (long : ℕ) → ℕ
-writeRefusal cells long = cond (eqb (length cells) 4096) (cond (eqb long 1536) (cond (allCells cells) 0 4) 3) 3
+writeRefusal cells long = cond (eqb (length cells) 4096) (cond (eqb long 1536) (cond (allBelow 3 cells) 0 4) 3) 3
 
 -- cell k of a byte
 abbrev pub cellIn : (byte k : ℕ) → ℕ

@@ -17,12 +17,12 @@ returns-3 c =
     let put = c .before .before in
     let tested = put .before .before in
     let tests = tested .before .before in
-    (simp (eq-eqb _ _ (tests .before .if1 .left), eq-eqb _ _ (tests .if2 .left), sym (tested .before .all-cells .ensures) ∙ tested .if3 .taken), ((λ e. put .put-blocks .ensures), (λ h. absurd (omega arith))))
+    (simp (eq-eqb _ _ (tests .before .if1 .left), eq-eqb _ _ (tests .if2 .left), sym (tested .before .all-below .ensures) ∙ tested .if3 .taken), ((λ e. put .put-blocks .ensures), (λ h. absurd (omega arith))))
 
 returns-4 : tie.Need-returns-4
 returns-4 c =
     let tests = c .before .before in
-    (simp (eq-eqb _ _ (tests .before .if1 .left), eq-eqb _ _ (tests .if2 .left), sym (c .before .all-cells .ensures) ∙ c .if3 .left), ((λ e. absurd (omega arith)), (λ h. refl)))
+    (simp (eq-eqb _ _ (tests .before .if1 .left), eq-eqb _ _ (tests .if2 .left), sym (c .before .all-below .ensures) ∙ c .if3 .left), ((λ e. absurd (omega arith)), (λ h. refl)))
 
 pub write-blocks-spec : {M : Type 1} → statement M
 write-blocks-spec =
