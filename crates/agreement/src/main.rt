@@ -43,6 +43,9 @@ use second::lines::FillingWord;
 use second::lines::differences;
 use second::lines::messages;
 use second::lines::one_if;
+use second::lines::unsure;
+use second::loads::draw;
+use second::loads::shift;
 use second::tallies::ALMOST_CLOSED;
 use second::tallies::BOUNDED_DISTANCE;
 use second::tallies::CLAUSES;
@@ -59,6 +62,7 @@ use second::tallies::room_of;
 use second::tallies::same;
 use second::tallies::say;
 use second::tallies::tick_if;
+use std::num::wrapping_add_u64;
 ghost use Prim.Native.Nat.{_≤_, _<_};
 
 fn degree_of(n: usize) -> u64 {
@@ -642,6 +646,265 @@ fn test_files(many: usize, writing: &mut Totals, reading: &mut Totals) {
     }
 }
 
+// ---- loads
+
+// A small seed, or one of 64 bits.
+fn seed_of(trial: u64) -> u64 {
+    if trial % 2 == 0 {
+        1 + trial / 2
+    } else {
+        mix(trial, 0)
+    }
+}
+
+// The first draws of a seed.
+fn test_draws(seed: u64, many: u64, tally: &mut Totals)
+    requires { ⌜ many ≤ 16384 ⌝ }
+{
+    let mut s = seed;
+    let mut state = load::draws::start(seed);
+    for k in 0..many {
+        s = shift(s);
+        state = load::draws::next(state);
+        let given = load::draws::drawn(state);
+        note(tally, b"", b"", 0, draw(s, k + 1) == given, given);
+    }
+}
+
+fn test_seeds(seeds: u64, many: u64, tally: &mut Totals)
+    requires { ⌜ many ≤ 16384 ⌝ }
+{
+    for trial in 0..seeds {
+        test_draws(seed_of(trial), many, tally);
+    }
+}
+
+// How many cells of a sheet are inverted and how many unsure.
+struct Hits {
+    wrong: u64,
+    unsure: u64,
+}
+
+// Kinds of numbers that a load is asked for; the others are any that fit.
+const HIT_KINDS: u64 = 6;
+
+const NO_CELL: u64 = 0;
+
+const ALL_INVERTED: u64 = 1;
+
+const ALL_UNSURE: u64 = 2;
+
+const EVERY_CELL: u64 = 3; // inverted or unsure
+
+const FEW: u64 = 4;
+
+fn hits_of(kind: u64, n: usize, state: &mut u64) -> Hits
+    requires { ⌜ (15 < n) × (n ≤ 128) ⌝ }
+{
+    let area = area_of(n);
+    let wrong = below(state, area + 1);
+    let left = area - wrong;
+    let unsure = below(state, left + 1);
+    if kind == NO_CELL {
+        so_many(0, 0)
+    } else if kind == ALL_INVERTED {
+        so_many(area, 0)
+    } else if kind == ALL_UNSURE {
+        so_many(0, area)
+    } else if kind == EVERY_CELL {
+        so_many(wrong, left)
+    } else if kind == FEW {
+        so_many(wrong % n, unsure % n)
+    } else {
+        so_many(wrong, unsure)
+    }
+}
+
+fn so_many(wrong: usize, unsure: usize) -> Hits {
+    Hits {
+        wrong: wrong as u64,
+        unsure: unsure as u64,
+    }
+}
+
+// The hits of a sheet, by what was sent.
+fn hits_in(n: usize, sent: &Cells, cells: &Cells) -> Hits
+    requires { ⌜ n ≤ 128 ⌝ }
+{
+    let mut wrong: u64 = 0;
+    let mut unsure_cells: u64 = 0;
+    for i in 0..n {
+        let line = take_line(n, i, cells);
+        wrong = wrapping_add_u64(wrong, differences(n, line, take_line(n, i, sent)));
+        unsure_cells = wrapping_add_u64(unsure_cells, unsure(n, line));
+    }
+    Hits {
+        wrong: wrong,
+        unsure: unsure_cells,
+    }
+}
+
+// A load by the second implementation or by the entry; gives the refusal number.
+fn call_load(
+    own: bool,
+    degree: u64,
+    seed: u64,
+    asked: Hits,
+    message: &[u8],
+    cells: &mut [u8],
+) -> u64 {
+    if own {
+        second::loads::load(degree, seed, asked.wrong, asked.unsure, message, cells)
+    } else {
+        load::entry::load(degree, seed, asked.wrong, asked.unsure, message, cells)
+    }
+}
+
+// Into room that holds no cell of a sheet.
+fn given_load(own: bool, n: usize, seed: u64, asked: Hits, message: Message) -> GivenArray
+    requires { ⌜ (15 < n) × (n ≤ 128) ⌝ }
+{
+    let area = area_of(n);
+    let long = message_area(n);
+    let mut cells = [9u8; 16384];
+    let refusal = call_load(
+        own,
+        degree_of(n),
+        seed,
+        asked,
+        &message[..long],
+        &mut cells[..area],
+    );
+    GivenArray {
+        refusal: refusal,
+        cells: cells,
+    }
+}
+
+fn add(tally: &mut Totals, place: usize, number: u64)
+    requires { ⌜ place < 32 ⌝ }
+{
+    tally[place] = wrapping_add_u64(tally[place], number);
+}
+
+// They agree where both are taken, leave the same cells, and exactly so many are hit as were asked for.
+fn note_load(
+    n: usize,
+    asked: Hits,
+    sent: &Cells,
+    own: GivenArray,
+    given: GivenArray,
+    tally: &mut Totals,
+)
+    requires { ⌜ (0 < n) × (n ≤ 128) ⌝ }
+{
+    let own_cells = own.cells;
+    let given_cells = given.cells;
+    let taken = (own.refusal == 0) & (given.refusal == 0);
+    let hit = hits_in(n, sent, &given_cells);
+    let exact = (hit.wrong == asked.wrong) & (hit.unsure == asked.unsure);
+    note_rooms(tally, &own_cells, &given_cells, area_of(n), taken & exact);
+    add(tally, OWN, hit.wrong);
+    add(tally, OWN + 1, hit.unsure);
+}
+
+fn note_rooms(tally: &mut Totals, own: &Cells, given: &Cells, room: usize, numbers_agree: bool) {
+    note(tally, own, given, room, numbers_agree, 0);
+}
+
+// One message by chance, with one of the kinds of hits.
+fn test_load(n: usize, trial: u64, state: &mut u64, tally: &mut Totals)
+    requires { ⌜ (15 < n) × (n ≤ 128) ⌝ }
+{
+    let seed = seed_of(trial);
+    let asked = hits_of(trial / 2 % HIT_KINDS, n, state);
+    let mut sent = [0u8; 16384];
+    make_sent(n, state, &mut sent);
+    let mut message = [0u8; 12769];
+    extract(n, &sent, &mut message);
+    let own = given_load(true, n, seed, asked, message);
+    let given = given_load(false, n, seed, asked, message);
+    note_load(n, asked, &sent, own, given, tally);
+}
+
+fn test_loads(n: usize, many: u64, tally: &mut Totals)
+    requires { ⌜ (15 < n) × (n ≤ 128) ⌝ }
+{
+    let mut state: u64 = 362436069;
+    for trial in 0..many {
+        test_load(n, trial, &mut state, tally);
+    }
+}
+
+// ---- the acceptance run, which is the same for every caller: loads of seeds 1 to 20, decoded by 4 iterations with fillings of 0
+
+// Cell i of the message is i / 3 modulo 2.
+fn acceptance_message() -> Message {
+    let mut message = [0u8; 12769];
+    for i in 0..12769 {
+        message[i] = (i / 3 % 2) as u8;
+    }
+    message
+}
+
+fn wide(cell: u8) -> u64
+    ensures { λ r. ⌜ r < 256 ⌝ }
+{
+    cell as u64
+}
+
+fn place_value(place: usize, cell: u8) -> u64
+    requires { ⌜ place < 16384 ⌝ }
+{
+    (place as u64 + 1) * wide(cell)
+}
+
+// Each cell times its place, of which the first counts as 1.
+fn sum_of_cells(n: usize, cells: &Cells) -> u64
+    requires { ⌜ (0 < n) × (n ≤ 128) ⌝ }
+{
+    let area = area_of(n);
+    let mut sum: u64 = 0;
+    for i in 0..area {
+        sum = wrapping_add_u64(sum, place_value(i, cells[i]));
+    }
+    sum
+}
+
+// Seed times n / 16 cells are inverted, and twice as many made unsure.
+fn acceptance_hits(n: usize, seed: u64) -> Hits
+    requires { ⌜ (n ≤ 128) × (seed ≤ 20) ⌝ }
+{
+    let wrong = seed * (n as u64) / 16;
+    Hits {
+        wrong: wrong,
+        unsure: 2 * wrong,
+    }
+}
+
+// What is told is noted from place 1 on.
+fn test_acceptance(n: usize, seed: u64, message: Message, tally: &mut Totals)
+    requires { ⌜ (15 < n) × (n ≤ 128) × (seed ≤ 20) ⌝ }
+{
+    let load = given_load(false, n, seed, acceptance_hits(n, seed), message);
+    let received = load.cells;
+    let left = given_decoding(n, received, [0u64; 10240], 4);
+    add(tally, 1, 1);
+    add(tally, 2, sum_of_cells(n, &received));
+    add(tally, 3, left.count);
+    add(tally, 4, left.unsure);
+    tick_if(tally, 5, left.closed);
+}
+
+fn test_acceptances(n: usize, tally: &mut Totals)
+    requires { ⌜ (15 < n) × (n ≤ 128) ⌝ }
+{
+    let message = acceptance_message();
+    for seed in 1..21 {
+        test_acceptance(n, seed, message, tally);
+    }
+}
+
 // ---- what is printed
 
 // How often each clause was met.
@@ -760,12 +1023,25 @@ fn run_array_entries(n: usize, weights: &Weights, many: usize)
     run_others(ROW, n, many, b"row: # rows, # agree, # differ, sum #\n");
 }
 
+fn run_loads(n: usize, many: u64)
+    requires { ⌜ (15 < n) × (n ≤ 128) ⌝ }
+{
+    let mut tally = [0u64; 32];
+    test_loads(n, many, &mut tally);
+    say(
+        b"load: # sheets, # agree, # differ, sum #; # cells inverted, # unsure\n",
+        &tally,
+        0,
+    );
+}
+
 fn run_degree(degree: u64, lines: usize, arrays: usize) {
     let n = cells_of(degree);
     let weights = weights_of(n);
     say(b"degree #\n", &[degree; 32], 0);
     run_line_entries(n, &weights, lines);
     run_array_entries(n, &weights, arrays);
+    run_loads(n, arrays as u64);
 }
 
 fn run_files(many: usize) {
@@ -784,9 +1060,32 @@ fn run_files(many: usize) {
     );
 }
 
+fn run_draws(seeds: u64, many: u64)
+    requires { ⌜ many ≤ 16384 ⌝ }
+{
+    let mut tally = [0u64; 32];
+    test_seeds(seeds, many, &mut tally);
+    say(b"draws: # draws, # agree, # differ, sum #\n", &tally, 0);
+}
+
+fn run_acceptance(degree: u64) {
+    let mut tally = [0u64; 32];
+    tally[0] = degree;
+    test_acceptances(cells_of(degree), &mut tally);
+    say(
+        b"acceptance run of degree #: # sheets, cells #, count #, unsure #, closed #\n",
+        &tally,
+        0,
+    );
+}
+
 fn main() {
     run_degree(4, 20000, 1530);
     run_degree(6, 3000, 255);
     run_degree(7, 1000, 51);
     run_files(1000);
+    run_draws(300, 300);
+    run_acceptance(4);
+    run_acceptance(6);
+    run_acceptance(7);
 }
