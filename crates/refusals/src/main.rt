@@ -43,7 +43,7 @@ ghost use Prim.Native.Nat.{_+_, _≤_, _<_};
 // A call is given by one number, whose digits choose the degree, the iterations, the lengths of up to three slices, the row, and
 // the cell that is spoilt in the first and in the second slice. Digit 0 is always right. How many more values than it each of the eight
 // digits has, the lowest first, for each entry:
-const MORE: [usize; 9] = [
+const MORE: [usize; 10] = [
     0o02022233, // decode: received, filling numbers, cells
     0o02020203, // encode: message, none, cells
     0o02020203, // extract: cells, none, message
@@ -53,10 +53,11 @@ const MORE: [usize; 9] = [
     0o22022203, // messages: incoming, channel, messages
     0o00000233, // write blocks, see below
     0o00033433, // read blocks
+    0o00712227, // load
 ];
 
 fn digits_of(entry: usize, t: usize) -> [usize; 8]
-    requires { ⌜ entry < 9 ⌝ }
+    requires { ⌜ entry < 10 ⌝ }
 {
     let more = MORE[entry];
     let mut digits = [0usize; 8];
@@ -325,14 +326,20 @@ fn test_refusals(entry: usize, lot: usize, many: usize, tally: &mut Totals)
     }
 }
 
-// A line that begins with what was tried, and has how many are to be taken and to be refused with each number.
-fn say_totals(beginning: &[u8], tally: &Totals) {
+// What was tried, and how many are to be taken and to be refused with each of the first numbers.
+fn say_first_totals(beginning: &[u8], tally: &Totals) {
     say(beginning, tally, 0);
     say(
-        b", # agree, # differ, sum #; # taken, # refused as 1, # as 2, # as 3, # as 4\n",
+        b", # agree, # differ, sum #; # taken, # refused as 1, # as 2, # as 3, # as 4",
         tally,
         1,
     );
+}
+
+// A line of these.
+fn say_totals(beginning: &[u8], tally: &Totals) {
+    say_first_totals(beginning, tally);
+    say(b"\n", tally, 0);
 }
 
 fn run_refusals(entry: usize, lot: usize, many: usize, beginning: &[u8])
@@ -393,67 +400,67 @@ const AFTER_SUMS: [usize; 4] = [0, 5, 6, 7];
 const BEFORE_SUMS: [usize; 4] = [0, 8, 9, 10];
 
 fn length_by(digit: usize, right: usize) -> usize
-    requires { ⌜ (2 ≤ right) × (right ≤ 4096) ⌝ }
+    requires { ⌜ (0 < right) × (right ≤ 16384) ⌝ }
     ensures { λ r. ⌜ r ≤ right + 1 ⌝ }
 {
     other_length(5 - digit % 4, right)
 }
 
 // What is seen of a call: its refusal number, the sheet number that it tells, and all of the room that the slice to be written lies in.
-struct FileResult {
+struct RoomResult {
     refusal: u64,
     number: u64,
     room: Room,
 }
 
-fn own_write(cells: Room, n: usize, long: usize) -> FileResult
+fn own_write(cells: Room, n: usize, long: usize) -> RoomResult
     requires { ⌜ (n ≤ 4097) × (long ≤ 1537) ⌝ }
 {
     let mut room = [7u8; 16385];
     let refusal = second::blocks::write_blocks(65535, &cells[..n], &mut room[..long]);
-    FileResult {
+    RoomResult {
         refusal: refusal,
         number: 0,
         room: room,
     }
 }
 
-fn given_write(cells: Room, n: usize, long: usize) -> FileResult
+fn given_write(cells: Room, n: usize, long: usize) -> RoomResult
     requires { ⌜ (n ≤ 4097) × (long ≤ 1537) ⌝ }
 {
     let mut room = [7u8; 16385];
     let refusal = blocks::entry::write_blocks(65535, &cells[..n], &mut room[..long]);
-    FileResult {
+    RoomResult {
         refusal: refusal,
         number: 0,
         room: room,
     }
 }
 
-fn own_read(file: FileRoom, n: usize, long: usize) -> FileResult
+fn own_read(file: FileRoom, n: usize, long: usize) -> RoomResult
     requires { ⌜ (n ≤ 4097) × (long ≤ 1537) ⌝ }
 {
     let mut room = [7u8; 16385];
     let told = second::blocks::read_blocks(&file[..long], &mut room[..n]);
-    FileResult {
+    RoomResult {
         refusal: told.refusal,
         number: told.number,
         room: room,
     }
 }
 
-fn given_read(file: FileRoom, n: usize, long: usize) -> FileResult
+fn given_read(file: FileRoom, n: usize, long: usize) -> RoomResult
     requires { ⌜ (n ≤ 4097) × (long ≤ 1537) ⌝ }
 {
     let mut room = [7u8; 16385];
     let answer = blocks::entry::read_blocks(&file[..long], &mut room[..n]);
     match answer {
-        ReadAnswer::Refused(why) => FileResult {
+        ReadAnswer::Refused(why) => RoomResult {
             refusal: number_of(why),
             number: 0,
             room: room,
         },
-        ReadAnswer::Read(number) => FileResult {
+        ReadAnswer::Read(number) => RoomResult {
             refusal: 0,
             number: number as u64,
             room: room,
@@ -461,15 +468,17 @@ fn given_read(file: FileRoom, n: usize, long: usize) -> FileResult
     }
 }
 
-// A refused call of the second implementation leaves its room as it was, which is proved: so does the entry's where the rooms agree. The
-// rooms are longer than any slice in them.
-fn note_files(own: FileResult, given: FileResult, tally: &mut Totals) {
+// A refused call of the second implementation leaves its room as it was, which is proved: so does the entry's where the rooms agree in so
+// many cells, which are more than any slice in them has.
+fn note_rooms(own: RoomResult, given: RoomResult, cells: usize, tally: &mut Totals) {
     let own_room = own.room;
     let given_room = given.room;
     let agree = (own.refusal == given.refusal) & (own.number == given.number);
-    note(tally, &own_room, &given_room, 4100, agree, given.number);
-    tick_if(tally, OWN + (given.refusal % 8) as usize, true);
+    note(tally, &own_room, &given_room, cells, agree, given.number);
+    tick_if(tally, OWN + (given.refusal % 16) as usize, true);
 }
+
+const FILE_CELLS: usize = 4100;
 
 // A sheet of unsure cells, of which the first or the last is spoilt where the digit says so.
 fn test_write(t: usize, tally: &mut Totals) {
@@ -477,9 +486,10 @@ fn test_write(t: usize, tally: &mut Totals) {
     let n = length_by(digits[0], 4096);
     let long = length_by(digits[1], 1536);
     let cells = prepared(4096, 2, digits[2], 3);
-    note_files(
+    note_rooms(
         own_write(cells, n, long),
         given_write(cells, n, long),
+        FILE_CELLS,
         tally,
     );
 }
@@ -487,7 +497,12 @@ fn test_write(t: usize, tally: &mut Totals) {
 fn test_file(file: FileRoom, n: usize, long: usize, tally: &mut Totals)
     requires { ⌜ (n ≤ 4097) × (long ≤ 1537) ⌝ }
 {
-    note_files(own_read(file, n, long), given_read(file, n, long), tally);
+    note_rooms(
+        own_read(file, n, long),
+        given_read(file, n, long),
+        FILE_CELLS,
+        tally,
+    );
 }
 
 // A file of a sheet and a number by chance, with the faults of a call's digits.
@@ -535,6 +550,106 @@ fn test_zero_sum(number: u64, at: usize, tally: &mut Totals)
     test_file(file, 4096, 1536, tally);
     file[at] = 255;
     test_file(file, 4096, 1536, tally);
+}
+
+// ---- loads
+
+const LOAD: usize = 9;
+
+// What a load is asked for: a seed, and how many cells it is to invert and to make unsure.
+struct Asked {
+    seed: u64,
+    wrong: u64,
+    unsure: u64,
+}
+
+fn ask(seed: u64, wrong: u64, unsure: u64) -> Asked {
+    Asked {
+        seed: seed,
+        wrong: wrong,
+        unsure: unsure,
+    }
+}
+
+// Digits 0 and 1 ask for as many cells as there are, the others for more; the sums of the last three wrap past 64 bits to fewer.
+fn asked_by(digit: usize, seed: u64, area: u64) -> Asked
+    requires { ⌜ (0 < area) × (area ≤ 16384) ⌝ }
+{
+    let part = area / 4;
+    if digit == 0 {
+        ask(seed, part, area - part)
+    } else if digit == 1 {
+        ask(seed, area, 0)
+    } else if digit == 2 {
+        ask(seed, area + 1, 0)
+    } else if digit == 3 {
+        ask(seed, 0, area + 1)
+    } else if digit == 4 {
+        ask(seed, area, 1)
+    } else if digit == 5 {
+        ask(seed, 0xFFFFFFFFFFFFFFFF, 1)
+    } else if digit == 6 {
+        ask(seed, 0x8000000000000000, 0x8000000000000000)
+    } else {
+        ask(seed, 2, 0xFFFFFFFFFFFFFFFF)
+    }
+}
+
+fn load_number(own: bool, degree: u64, by: Asked, message: &[u8], cells: &mut [u8]) -> u64 {
+    if own {
+        second::loads::load(degree, by.seed, by.wrong, by.unsure, message, cells)
+    } else {
+        load::entry::load(degree, by.seed, by.wrong, by.unsure, message, cells)
+    }
+}
+
+// A load by the second implementation or by the entry, of the first cells of one room into those of another.
+fn load_result(
+    own: bool,
+    degree: u64,
+    by: Asked,
+    message: Room,
+    message_long: usize,
+    cells_long: usize,
+) -> RoomResult
+    requires { ⌜ («message_long» ≤ 16385) × («cells_long» ≤ 16385) ⌝ }
+{
+    let mut room = [7u8; 16385];
+    let refusal = load_number(
+        own,
+        degree,
+        by,
+        &message[..message_long],
+        &mut room[..cells_long],
+    );
+    RoomResult {
+        refusal: refusal,
+        number: 0,
+        room: room,
+    }
+}
+
+// The digits of a call choose the degree, the lengths of the message and of the cells, the message cell that is spoilt, seed 0, and how many
+// cells are asked for.
+fn test_load(t: usize, tally: &mut Totals) {
+    let digits = digits_of(LOAD, t);
+    let degree = DEGREES[digits[0] % 8];
+    let n = cells_of(degree);
+    let area = area_of(n);
+    let message_long = length_by(digits[1], message_area(n));
+    let cells_long = length_by(digits[2], area);
+    let message = prepared(message_long, 1, digits[3], 2);
+    let seed = if digits[4] == 0 { 88172645463325252 } else { 0 };
+    let by = asked_by(digits[5], seed, area as u64);
+    let own = load_result(true, degree, by, message, message_long, cells_long);
+    let given = load_result(false, degree, by, message, message_long, cells_long);
+    note_rooms(own, given, cells_long + 1, tally);
+}
+
+fn test_loads(many: usize, tally: &mut Totals) {
+    for t in 0..many {
+        test_load(t, tally);
+    }
 }
 
 // ---- texts: good inputs of `sheet`, and inputs that are spoilt in each way
@@ -592,7 +707,7 @@ fn other_byte(kind: usize, n: usize, p: usize, input: &mut Text)
 
 // Another length: empty, one byte, the first line alone, a byte less, a byte more.
 fn other_length(kind: usize, long: usize) -> usize
-    requires { ⌜ (2 ≤ long) × (long ≤ 16514) ⌝ }
+    requires { ⌜ (0 < long) × (long ≤ 16514) ⌝ }
     ensures { λ r. ⌜ r ≤ long + 1 ⌝ }
 {
     if kind < 3 {
@@ -683,20 +798,21 @@ fn run_first_lines() {
     say_totals(b"first lines of sheet: # texts", &tally);
 }
 
-// A line as above, with all refusal numbers.
-fn say_all_totals(beginning: &[u8], tally: &Totals) {
-    say(beginning, tally, 0);
-    say(
-        b", # agree, # differ, sum #; # taken, # refused as 1, # as 2, # as 3, # as 4, # as 5, # as 6, # as 7\n",
-        tally,
-        1,
-    );
+// With the refusal numbers of files, and with those of loads.
+fn say_file_totals(beginning: &[u8], tally: &Totals) {
+    say_first_totals(beginning, tally);
+    say(b", # as 5, # as 6, # as 7\n", tally, OWN + 5);
+}
+
+fn say_load_totals(beginning: &[u8], tally: &Totals) {
+    say_first_totals(beginning, tally);
+    say(b", # as 8, # as 9\n", tally, OWN + 8);
 }
 
 fn run_files(reads: bool, many: usize, beginning: &[u8]) {
     let mut tally = [0u64; 32];
     test_files(reads, many, &mut tally);
-    say_all_totals(beginning, &tally);
+    say_file_totals(beginning, &tally);
 }
 
 fn run_fitting(many: usize)
@@ -704,7 +820,7 @@ fn run_fitting(many: usize)
 {
     let mut tally = [0u64; 32];
     test_fitting(many, &mut tally);
-    say_all_totals(
+    say_file_totals(
         b"calls of read_blocks with the right lengths: # calls",
         &tally,
     );
@@ -714,10 +830,16 @@ fn run_zero_sums() {
     let mut tally = [0u64; 32];
     test_zero_sum(249, 510, &mut tally);
     test_zero_sum(253, 511, &mut tally);
-    say_all_totals(
+    say_file_totals(
         b"read_blocks with a sum of 0, and with 255 for it: # files",
         &tally,
     );
+}
+
+fn run_loads(many: usize) {
+    let mut tally = [0u64; 32];
+    test_loads(many, &mut tally);
+    say_load_totals(b"calls of load: # calls", &tally);
 }
 
 fn main() {
@@ -732,4 +854,5 @@ fn main() {
     run_files(true, 5120, b"calls of read_blocks: # calls");
     run_fitting(5120);
     run_zero_sums();
+    run_loads(3456);
 }
