@@ -761,7 +761,7 @@ fn call_load(
 }
 
 // Into room that holds no cell of a sheet.
-fn given_load(own: bool, n: usize, seed: u64, asked: Hits, message: Message) -> GivenArray
+fn loaded(own: bool, n: usize, seed: u64, asked: Hits, message: Message) -> GivenArray
     requires { ⌜ (15 < n) × (n ≤ 128) ⌝ }
 {
     let area = area_of(n);
@@ -781,6 +781,7 @@ fn given_load(own: bool, n: usize, seed: u64, asked: Hits, message: Message) -> 
     }
 }
 
+// A number more at a place.
 fn add(tally: &mut Totals, place: usize, number: u64)
     requires { ⌜ place < 32 ⌝ }
 {
@@ -796,20 +797,16 @@ fn note_load(
     given: GivenArray,
     tally: &mut Totals,
 )
-    requires { ⌜ (0 < n) × (n ≤ 128) ⌝ }
+    requires { ⌜ n ≤ 128 ⌝ }
 {
     let own_cells = own.cells;
     let given_cells = given.cells;
     let taken = (own.refusal == 0) & (given.refusal == 0);
     let hit = hits_in(n, sent, &given_cells);
     let exact = (hit.wrong == asked.wrong) & (hit.unsure == asked.unsure);
-    note_rooms(tally, &own_cells, &given_cells, area_of(n), taken & exact);
+    note_cells(n, tally, &own_cells, &given_cells, taken & exact, 0);
     add(tally, OWN, hit.wrong);
     add(tally, OWN + 1, hit.unsure);
-}
-
-fn note_rooms(tally: &mut Totals, own: &Cells, given: &Cells, room: usize, numbers_agree: bool) {
-    note(tally, own, given, room, numbers_agree, 0);
 }
 
 // One message by chance, with one of the kinds of hits.
@@ -822,8 +819,8 @@ fn test_load(n: usize, trial: u64, state: &mut u64, tally: &mut Totals)
     make_sent(n, state, &mut sent);
     let mut message = [0u8; 12769];
     extract(n, &sent, &mut message);
-    let own = given_load(true, n, seed, asked, message);
-    let given = given_load(false, n, seed, asked, message);
+    let own = loaded(true, n, seed, asked, message);
+    let given = loaded(false, n, seed, asked, message);
     note_load(n, asked, &sent, own, given, tally);
 }
 
@@ -886,7 +883,7 @@ fn acceptance_hits(n: usize, seed: u64) -> Hits
 fn test_acceptance(n: usize, seed: u64, message: Message, tally: &mut Totals)
     requires { ⌜ (15 < n) × (n ≤ 128) × (seed ≤ 20) ⌝ }
 {
-    let load = given_load(false, n, seed, acceptance_hits(n, seed), message);
+    let load = loaded(false, n, seed, acceptance_hits(n, seed), message);
     let received = load.cells;
     let left = given_decoding(n, received, [0u64; 10240], 4);
     add(tally, 1, 1);

@@ -52,8 +52,8 @@ const MORE: [usize; 10] = [
     0o02000203, // decode line: cells
     0o22022203, // messages: incoming, channel, messages
     0o00000233, // write blocks, see below
-    0o00033433, // read blocks
-    0o00712227, // load
+    0o00033433, // read blocks, see below
+    0o00712227, // load, see below
 ];
 
 fn digits_of(entry: usize, t: usize) -> [usize; 8]

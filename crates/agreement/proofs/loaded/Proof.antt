@@ -1,12 +1,12 @@
--- `given_load` is safe and meets its contract. Assumes nothing.
+-- `loaded` is safe and meets its contract. Assumes nothing.
 use borrow.Author.Needs.{needs}
 use lib.Seq.{length-take-le}
 use mathlib.Core.Path.{sym}
-use Rattle.agreement.proofs.given_load.Statement.{statement}
-use Rattle.agreement.proofs.given_load.Tie as tie
+use Rattle.agreement.proofs.loaded.Statement.{statement}
+use Rattle.agreement.proofs.loaded.Tie as tie
 
-pub given-load-spec : {M : Type 1} → statement M
-given-load-spec =
+pub loaded-spec : {M : Type 1} → statement M
+loaded-spec =
     tie.close
     (tie.spec
     (λ c κs. search needs)
