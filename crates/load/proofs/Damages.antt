@@ -3,30 +3,23 @@
 use mathlib.Core.Path.{_≡_, refl, sym, ap, ap₂, _∙_}
 use mathlib.Core.List.{List, [], _∷_}
 use mathlib.Core.Logic.{dite}
-use Prim.Native.Nat.{ℕ, zero, suc, _+_, _-_, _*_, _<_, _≤_}
-use native.Mathlib.Nat.{zero-add, not-suc-le-zero, suc-inj, min-le-left}
+use Prim.Native.Nat.{ℕ, zero, suc, _+_, _-_, _<_, _≤_}
+use native.Mathlib.Nat.{zero-add}
 use native.Mathlib.Numerals.{one-add}
 use native.Mathlib.Decide.{decLt}
 use native.Mathlib.Omega.{arith}
-use lib.Dec.{eqb}
-use lib.ListN.{length, take, drop, set, length-set, length-take, length-drop}
+use lib.ListN.{length, take, drop, set, length-set, length-drop}
 use lib.Seq.{getD-set-same, getD-set-other, getD-take, getD-drop, length-take-le, take-all, drop-drop}
 use borrow.Author.Tests.{eq-eqb, ne-eqb}
 use Rattle.laws.specs.Bits.{bit}
 use Rattle.laws.specs.Sums.{sumTo}
 use Rattle.laws.proofs.Sums.{sum-ext}
-use Rattle.degree.specs.declared.Degree.{Degree}
-use Rattle.degree.specs.Degree.{size}
-use Rattle.line.specs.Cells.{cell, IsWord, isErased, distance, erasures, designedDistance}
+use Rattle.line.specs.Cells.{cell, IsWord, isErased, distance, erasures}
 use Rattle.line.specs.working.OneCell.{differs}
 use Rattle.line.proofs.CellLaws.{distance-sum, erasures-sum}
-use Rattle.array.specs.Arrays.{line}
-use Rattle.array.specs.Plain.{RowCondition}
-use Rattle.array.proofs.ArrayLaws.{line-room}
 use Rattle.load.specs.Load.{changed, damaged}
-use Rattle.load.specs.Entries.{times, EachOnce, inRow, Hit}
-use Rattle.load.specs.working.Within.{Within}
-use Rattle.load.proofs.Places.{times-parts, times-entry, sum-times-le, sum-times}
+use Rattle.load.specs.Entries.{times, EachOnce}
+use Rattle.load.proofs.Places.{times-parts, times-entry, sum-times}
 use Rattle.load.proofs.Shuffles.{once-within}
 
 -- ---- cells that are changed

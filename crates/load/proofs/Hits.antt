@@ -1,15 +1,13 @@
 -- "So exactly D and E cells are hit": what the promise says of a sheet and what became of it.
 -- Assumes nothing.
-use mathlib.Core.Path.{_≡_, refl}
 use mathlib.Core.List.{List}
-use Prim.Native.Nat.{ℕ, _+_, _*_, _<_, _≤_}
+use Prim.Native.Nat.{ℕ, _+_, _*_, _≤_}
 use native.Mathlib.Nat.{min-le-left}
 use native.Mathlib.Omega.{arith}
 use lib.ListN.{length, take, drop, length-take}
 use Rattle.degree.specs.declared.Degree.{Degree}
 use Rattle.degree.specs.Degree.{size}
-use Rattle.line.specs.Cells.{IsWord, designedDistance}
-use Rattle.array.specs.Plain.{RowCondition}
+use Rattle.line.specs.Cells.{IsWord}
 use Rattle.array.proofs.ArrayLaws.{line-room}
 use Rattle.load.specs.Load.{damaged}
 use Rattle.load.specs.Entries.{EachOnce, inRow, Hit}

@@ -6,7 +6,7 @@ use Prim.Native.Nat.{ℕ, suc, _+_, _-_, _%_, _<_, _≤_}
 use native.Mathlib.Nat.{mod-lt}
 use native.Mathlib.Omega.{arith}
 use lib.ListN.{length}
-use Rattle.load.specs.Load.{start, stirred, grown, next, drawn, exchanged, shuffled}
+use Rattle.load.specs.Load.{start, stirred, grown, drawn, exchanged, shuffled}
 use Rattle.load.proofs.Shuffles.{length-exchanged}
 
 -- so many places are left, of which all but place 0 are to be exchanged yet

@@ -1,5 +1,5 @@
 // The load: what a caller outside may use. It takes plain numbers and lent slices, and asks nothing of them.
-use crate::damage::put_damage;
+use crate::hitting::put_damage;
 use crate::refusals::load_test;
 use crate::shuffling::put_order;
 use array::encoding::encode_array;

@@ -1,5 +1,4 @@
 // The places of a sheet in shuffled order.
-use crate::draws::State;
 use crate::draws::drawn;
 use crate::draws::next;
 use crate::draws::start;

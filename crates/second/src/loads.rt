@@ -10,11 +10,11 @@ use crate::encoding::put_message;
 use std::num::wrapping_add_u64;
 ghost use Prim.Native.Nat.{_+_, _-_, _*_, _%_, _^_, _≤_, _<_};
 ghost use mathlib.Core.Path.{_≡_};
-ghost use lib.ListN.{length, getD, replicate};
+ghost use lib.ListN.{length, getD};
 ghost use Rattle.second.specs.working.Loops.{written};
 ghost use Rattle.second.specs.working.Codes.{cellsOf};
 ghost use Rattle.second.specs.working.Encoding.{messageArea};
-ghost use Rattle.second.specs.working.Loads.{shifted, grownTimes, drawOf, drawsOf, markOf, changed, changedTo, markedCells, sentCells, damagedCell, loadedCells, isDegree, longRefusal, sizedRefusal, loadRefusal, LoadedOrKept};
+ghost use Rattle.second.specs.working.Loads.{shifted, grownTimes, drawsOf, markOf, changed, changedTo, markedCells, sentCells, damagedCell, loadedCells, isDegree, longRefusal, sizedRefusal, loadRefusal, LoadedOrKept};
 
 // ---- draws
 

@@ -1,10 +1,9 @@
 -- `shuffling::number_places` meets its contract. The loop's invariant: the first i places are numbered. The measure is the places left.
 -- Assumes nothing.
 use mathlib.Core.Path.{refl}
-use Prim.Native.Nat.{ℕ, _-_, _<_, _≤_}
+use Prim.Native.Nat.{_-_}
 use native.Mathlib.Omega.{arith}
-use lib.ListN.{length, length-set}
-use Rattle.line.proofs.LineLaw.{listTo-is}
+use lib.ListN.{length}
 use Rattle.load.proofs.Numbering.{Numbered, numbered-next, numbered-end}
 use Rattle.load.proofs.shuffling.number_places.Statement.{statement}
 use Rattle.load.proofs.shuffling.number_places.Tie as tie

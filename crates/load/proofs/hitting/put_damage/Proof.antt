@@ -1,4 +1,4 @@
--- `damage::put_damage` meets its contract: the first places are inverted, the next made unsure.
+-- `hitting::put_damage` meets its contract: the first places are inverted, the next made unsure.
 -- Assumes nothing.
 use mathlib.Core.Path.{sym}
 use native.Mathlib.Omega.{arith}
@@ -7,8 +7,8 @@ use Rattle.load.specs.Load.{damaged}
 use Rattle.load.proofs.Damages.{length-changed}
 use Rattle.load.proofs.Changing.{first-within, next-within, sub-first}
 use borrow.Author.Needs.{needs}
-use Rattle.load.proofs.damage.put_damage.Statement.{statement}
-use Rattle.load.proofs.damage.put_damage.Tie as tie
+use Rattle.load.proofs.hitting.put_damage.Statement.{statement}
+use Rattle.load.proofs.hitting.put_damage.Tie as tie
 
 add-end : tie.Need-add-end
 add-end c = search needs

@@ -1,15 +1,14 @@
--- `damage::invert` meets its contract. The loop's invariant: the places from i on are left, and no cell is unsure. The measure
+-- `hitting::invert` meets its contract. The loop's invariant: the places from i on are left, and no cell is unsure. The measure
 -- is the places left.
 -- Assumes nothing.
-use mathlib.Core.Path.{_≡_}
 use Prim.Native.Nat.{_-_}
 use native.Mathlib.Omega.{arith}
 use lib.ListN.{length}
 use Rattle.line.specs.Cells.{cell, IsWord}
 use Rattle.line.proofs.CellLaws.{set-cells}
 use Rattle.load.proofs.Changing.{Changing, changing-start, changing-room, changing-next, changing-end}
-use Rattle.load.proofs.damage.invert.Statement.{statement}
-use Rattle.load.proofs.damage.invert.Tie as tie
+use Rattle.load.proofs.hitting.invert.Statement.{statement}
+use Rattle.load.proofs.hitting.invert.Tie as tie
 
 abbrev Inv-loop : tie.InvT-loop
 Inv-loop places cells₀ i₀ cells i = Changing (λ c. 1 - c) places cells₀ cells i × IsWord (length cells₀) cells

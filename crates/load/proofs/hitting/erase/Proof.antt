@@ -1,13 +1,12 @@
--- `damage::erase` meets its contract. The loop's invariant: the places from i on are left. The measure
+-- `hitting::erase` meets its contract. The loop's invariant: the places from i on are left. The measure
 -- is the places left.
 -- Assumes nothing.
-use mathlib.Core.Path.{_≡_}
 use Prim.Native.Nat.{_-_}
 use native.Mathlib.Omega.{arith}
 use lib.ListN.{length}
 use Rattle.load.proofs.Changing.{Changing, changing-start, changing-room, changing-next, changing-end}
-use Rattle.load.proofs.damage.erase.Statement.{statement}
-use Rattle.load.proofs.damage.erase.Tie as tie
+use Rattle.load.proofs.hitting.erase.Statement.{statement}
+use Rattle.load.proofs.hitting.erase.Tie as tie
 
 abbrev Inv-loop : tie.InvT-loop
 Inv-loop places cells₀ i₀ cells i = Changing (λ c. 2) places cells₀ cells i

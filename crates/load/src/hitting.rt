@@ -1,7 +1,7 @@
 // Damage to a sheet: cells inverted and made unsure, at places that are handed in.
 ghost use mathlib.Core.Path.{_≡_};
-ghost use Prim.Native.Nat.{ℕ, _+_, _-_, _<_, _≤_};
-ghost use lib.ListN.{length, getD};
+ghost use Prim.Native.Nat.{_+_, _-_, _<_, _≤_};
+ghost use lib.ListN.{length};
 ghost use Rattle.line.specs.Cells.{IsWord};
 ghost use Rattle.load.specs.Load.{changed, damaged};
 ghost use Rattle.load.specs.working.Within.{Within};
