@@ -1,10 +1,10 @@
 -- Arrays: where a cell stands, lines of an array, the transposed array, and arrays known by their lines.
 -- Assumes nothing.
-use mathlib.Core.Path.{_≡_, refl, sym, ap, ap₂, _∙_}
+use mathlib.Core.Path.{_≡_, sym, ap, ap₂, _∙_}
 use mathlib.Core.Logic.{_⊎_, inl, inr, dite}
 use mathlib.Core.List.{List, [], _∷_, _++_}
 use Prim.Native.Nat.{ℕ, zero, suc, _+_, _*_, _/_, _%_, _<_, _≤_}
-use native.Mathlib.Nat.{add-zero, zero-add, zero-mul, suc-mul, mod-eq-of-lt, div-eq-of-lt, mul-add-mod-self-right, mul-add-div-right, mod-lt, div-add-mod', div-lt-iff-lt-mul, mul-le-mul-right, eq-or-lt-of-le, le-of-suc-le-suc}
+use native.Mathlib.Nat.{add-zero, zero-mul, suc-mul, mod-eq-of-lt, div-eq-of-lt, mul-add-mod-self-right, mul-add-div-right, mod-lt, div-add-mod', div-lt-iff-lt-mul, mul-le-mul-right, eq-or-lt-of-le, le-of-suc-le-suc}
 use native.Mathlib.Decide.{decLt}
 use native.Mathlib.Omega.{arith}
 use lib.ListN.{length, take, drop, getD, length-append, length-drop, List·getD-eq-default}

@@ -3,7 +3,7 @@
 use mathlib.Core.List.{List}
 use Prim.Native.Nat.{ℕ, _*_, _%_}
 use lib.ListN.{take}
-use Rattle.laws.specs.Digits.{sumOver, ones}
+use Rattle.laws.specs.Digits.{sumOver, onesIn}
 use Rattle.degree.specs.declared.Degree.{Degree}
 use Rattle.degree.specs.Degree.{size, order}
 use Rattle.field.specs.Field.{power}
@@ -15,4 +15,4 @@ abbrev pub s3 : Degree → List ℕ → ℕ
 s3 d cells = sumOver (λ i. power d (3 * i)) (take (order d) cells)
 
 abbrev pub parity : Degree → List ℕ → ℕ
-parity d cells = ones (take (size d) cells) % 2
+parity d cells = onesIn (take (size d) cells) % 2

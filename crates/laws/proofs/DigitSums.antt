@@ -14,7 +14,7 @@ use lib.Dec.{eqb, leb·suc-suc}
 use lib.ListN.{length, getD, take, set}
 use lib.Pow.{pow-pos, field, mod-mod-pow}
 use Rattle.laws.proofs.Xor.{xors, xor-assoc, xor-one, bit-ind}
-use Rattle.laws.specs.Digits.{sumOver, ones, digits}
+use Rattle.laws.specs.Digits.{sumOver, onesIn, digits}
 use Rattle.laws.specs.working.Digits.{upTo}
 
 -- what a cell adds to a sum in which it counts for m
@@ -74,14 +74,14 @@ sum-pair f g h (c ∷ cs) =
     pick false = (refl, omega arith)
 
 -- each cell that holds 1 counted once: the parity
-pub sum-ones : (cells : List ℕ) → sumOver (λ i. 1) cells ≡ ones cells % 2
-unfolding sumOver ones
+pub sum-ones : (cells : List ℕ) → sumOver (λ i. 1) cells ≡ onesIn cells % 2
+unfolding sumOver onesIn
 sum-ones [] = refl
 sum-ones (c ∷ cs) = ap (bitXor (cell c 1)) (sum-ones cs) ∙ pick (eqb c 1)
   where
     pick : (b : Bool)
-        → bitXor (elim b [ true ↦ 1 | false ↦ 0 ]) (ones cs % 2) ≡ (elim b [ true ↦ 1 | false ↦ 0 ] + ones cs) % 2
-    pick true = omega (arith, xor-comm 1 (ones cs % 2), xor-one (ones cs))
+        → bitXor (elim b [ true ↦ 1 | false ↦ 0 ]) (onesIn cs % 2) ≡ (elim b [ true ↦ 1 | false ↦ 0 ] + onesIn cs) % 2
+    pick true = omega (arith, xor-comm 1 (onesIn cs % 2), xor-one (onesIn cs))
     pick false = omega arith
 
 -- ---- parts of a list

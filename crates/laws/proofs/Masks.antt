@@ -1,7 +1,7 @@
 -- The set bits of a mask, from the lowest up, and sums over them.
 -- Assumes nothing.
 use mathlib.Core.Path.{_≡_, refl, sym, ap, ap₂, _∙_}
-use mathlib.Core.Bool.{Bool, true, false, cond}
+use mathlib.Core.Bool.{true, false, cond}
 use mathlib.Core.Logic.{_≢_, dite}
 use Prim.Native.Nat.{ℕ, zero, suc, _+_, _-_, _*_, _/_, _%_, _^_, _≤_, _<_, suc-le-suc}
 use native.Mathlib.Nat.{mod-lt, zero-lt-suc, zero-div, div-one, pow-suc, add-zero, zero-add, zero-mul, one-mul, add-mul, lt-of-lt-of-le, div-eq-of-lt, not-suc-le-zero}

@@ -1,6 +1,5 @@
 -- Sums over the numbers below a bound.
 use Prim.Native.Nat.{ℕ, zero, suc, _+_}
-use lib.Bits.{bitXor}
 
 -- f 0 + f 1 + .. + f (n - 1)
 unfoldable pub sumTo : (ℕ → ℕ) → ℕ → ℕ

@@ -6,7 +6,7 @@ use mathlib.Core.List.{List, [], _∷_, map}
 use Prim.Native.Nat.{ℕ, _≤_}
 use native.Mathlib.Omega.{arith}
 use Rattle.laws.specs.Searches.{firstOf}
-use Rattle.laws.specs.Digits.{sumOver, ones}
+use Rattle.laws.specs.Digits.{sumOver, onesIn}
 use Rattle.degree.specs.declared.Degree.{Degree}
 use Rattle.degree.specs.declared.Degree.the-variants.{Four}
 use Rattle.degree.specs.Degree.{size}
@@ -54,5 +54,5 @@ abbrev tries : List (List ℕ)
 tries = [] ∷ (4 ∷ []) ∷ (15 ∷ []) ∷ (0 ∷ 4 ∷ []) ∷ (0 ∷ 15 ∷ []) ∷ (0 ∷ 4 ∷ 6 ∷ []) ∷ []
 
 pub changes : map (λ (wrong : List ℕ). changed (line wrong []) (bounded Four (line wrong []))) tries ≡ 0 ∷ 1 ∷ 1 ∷ 2 ∷ 2 ∷ 0 ∷ []
-unfolding bounded within2 oneFlipped twoFlipped itself firstOf flip isCodeword ones sumOver double timesPower distance
+unfolding bounded within2 oneFlipped twoFlipped itself firstOf flip isCodeword onesIn sumOver double timesPower distance
 changes = refl

@@ -7,7 +7,7 @@ use Prim.Native.Nat.{ℕ}
 use lib.ListN.{set}
 use Rattle.degree.specs.declared.Degree.the-variants.{Four}
 use Rattle.field.specs.Field.{double, timesPower}
-use Rattle.laws.specs.Digits.{sumOver, ones}
+use Rattle.laws.specs.Digits.{sumOver, onesIn}
 use Rattle.laws.specs.Searches.{firstOf}
 use Rattle.laws.specs.Sums.{sumTo}
 use Rattle.line.specs.declared.side.Side.the-variants.{One, Two}
@@ -48,5 +48,5 @@ computed (Settles y k x c n) = Settles y k x (clause (bounded Four) y (set y k x
 
 -- every row is as the definitions give it
 pub clauses : map computed rows ≡ rows
-unfolding bounded within2 oneFlipped twoFlipped itself firstOf flip isCodeword ones sumOver double timesPower filled erasures distance count sumTo reach same agrees byReach clause
+unfolding bounded within2 oneFlipped twoFlipped itself firstOf flip isCodeword onesIn sumOver double timesPower filled erasures distance count sumTo reach same agrees byReach clause
 clauses = refl

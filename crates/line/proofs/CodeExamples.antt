@@ -8,7 +8,7 @@ use lib.ListN.{replicate, set}
 use Rattle.degree.specs.declared.Degree.the-variants.{Four, Six, Seven}
 use Rattle.degree.specs.Degree.{size}
 use Rattle.field.specs.Field.{double, timesPower}
-use Rattle.laws.specs.Digits.{sumOver, ones}
+use Rattle.laws.specs.Digits.{sumOver, onesIn}
 use Rattle.line.specs.Cells.{distance, designedDistance}
 use Rattle.line.specs.Codeword.{isCodeword}
 use Rattle.line.specs.Encoding.{checkSize, messageSize}
@@ -31,7 +31,7 @@ put x (i ∷ is) l = set (put x is l) i x
 
 -- degree 4: G, which differs from the word of zeros in 6 cells, so that no greater distance than 6 could be had
 pub four : isCodeword Four G ≡ true
-unfolding isCodeword ones sumOver double timesPower
+unfolding isCodeword onesIn sumOver double timesPower
 four = refl
 
 pub six-apart : distance zeros G ≡ designedDistance
@@ -40,10 +40,10 @@ six-apart = refl
 
 -- degree 6: the generator polynomial of BCH (63, 51), 12471 in octal, and the cell that makes its ones even in number
 pub six : isCodeword Six (put 1 (0 ∷ 3 ∷ 4 ∷ 5 ∷ 8 ∷ 10 ∷ 12 ∷ 63 ∷ []) (replicate 64 0)) ≡ true
-unfolding isCodeword ones sumOver double timesPower
+unfolding isCodeword onesIn sumOver double timesPower
 six = refl
 
 -- degree 7: that of BCH (127, 113), 41567 in octal
 pub seven : isCodeword Seven (put 1 (0 ∷ 1 ∷ 2 ∷ 4 ∷ 5 ∷ 6 ∷ 8 ∷ 9 ∷ 14 ∷ 127 ∷ []) (replicate 128 0)) ≡ true
-unfolding isCodeword ones sumOver double timesPower
+unfolding isCodeword onesIn sumOver double timesPower
 seven = refl

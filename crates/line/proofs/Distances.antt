@@ -21,7 +21,7 @@ use Rattle.field.specs.declared.locate.Positions.{Positions}
 use Rattle.degree.specs.Degree.{size, order}
 use Rattle.field.specs.Field.{power}
 use Rattle.field.specs.working.Positions.{total, searched}
-use Rattle.laws.specs.Digits.{sumOver, ones}
+use Rattle.laws.specs.Digits.{sumOver, onesIn}
 use Rattle.field.specs.Syndrome.{s1, s3, parity}
 use Rattle.field.specs.working.Fitting.{Within}
 use Rattle.field.proofs.Uniqueness.{unique}
@@ -90,7 +90,7 @@ module _ (d : Degree) where
   }
 
   -- the parity of a word is that of its ones
-  pub word-parity : {w : List ℕ} → IsWord (size d) w → parity d w ≡ ones w % 2
+  pub word-parity : {w : List ℕ} → IsWord (size d) w → parity d w ≡ onesIn w % 2
   word-parity {w} l = rw (take-all (size d) w (rw (l .long) (le-refl (size d))))
 
   -- the test of a word says whether it is a codeword

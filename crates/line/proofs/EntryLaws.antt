@@ -4,7 +4,6 @@ use mathlib.Core.Path.{_≡_, refl, sym, ap, _∙_}
 use mathlib.Core.Bool.{Bool, true, false, cond, true≢false}
 use mathlib.Core.List.{List}
 use Prim.Native.Nat.{ℕ}
-use native.Mathlib.Omega.{arith}
 use Rattle.degree.specs.declared.Degree.{Degree}
 use Rattle.degree.specs.declared.Named.the-variants.{Known}
 use Rattle.degree.specs.Degree.{size, named}

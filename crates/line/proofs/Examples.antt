@@ -9,7 +9,7 @@ use lib.ListN.{length, replicate, set}
 use borrow.Author.Tests.{eqb-true}
 use Rattle.degree.specs.declared.Degree.the-variants.{Four}
 use Rattle.field.specs.Field.{double, timesPower}
-use Rattle.laws.specs.Digits.{sumOver, ones}
+use Rattle.laws.specs.Digits.{sumOver, onesIn}
 use Rattle.line.specs.Cells.{cell, erasures, distance, filled, flip}
 use Rattle.line.specs.Codeword.{isCodeword}
 use Rattle.laws.specs.Searches.{firstOf}
@@ -110,7 +110,7 @@ computed-quick (Decodes y f a ∷ rs) = rw (computed-quick rs)
 computed-quick (Sends y k x m c ∷ rs) = rw (messages-short (bounded Four) y (set y k x) 0, computed-quick rs)
 
 rows-quick : map quick rows ≡ rows
-unfolding bounded within2 oneFlipped twoFlipped itself firstOf flip isCodeword ones sumOver double timesPower decode filled erasures distance listTo message count sumTo reach same agrees byReach clause
+unfolding bounded within2 oneFlipped twoFlipped itself firstOf flip isCodeword onesIn sumOver double timesPower decode filled erasures distance listTo message count sumTo reach same agrees byReach clause
 rows-quick = refl
 
 -- every row is as the definitions give it

@@ -13,7 +13,7 @@ use Rattle.laws.proofs.Xor.{xor-assoc}
 use Rattle.field.specs.declared.locate.Positions.{Positions}
 use Rattle.field.specs.declared.locate.Positions.the-variants.{Zero, One, Two, Unfit}
 use Rattle.field.specs.working.Positions.{total}
-use Rattle.laws.specs.Digits.{sumOver, ones}
+use Rattle.laws.specs.Digits.{sumOver, onesIn}
 use Rattle.field.specs.working.Fitting.{Within}
 use lib.Seq.{getD-set-other}
 use Rattle.line.specs.Cells.{IsWord, cell, distance, flip}
@@ -224,7 +224,7 @@ flipped-sum f w Unfit l h = refl
 
 -- each position turns the parity
 pub flipped-ones : {n : ℕ} (w : List ℕ) (p : Positions) → IsWord n w → Within n p
-    → (ones (flipped p w) + ones w + many p) % 2 ≡ 0
+    → (onesIn (flipped p w) + onesIn w + many p) % 2 ≡ 0
 flipped-ones w Zero l h = omega arith
 flipped-ones w (One i) l h = omega (arith, ones-flip w i (l .small) (rw (l .long) h))
 flipped-ones w (Two i j) l h =

@@ -23,7 +23,7 @@ use Rattle.degree.specs.declared.Degree.{Degree}
 use Rattle.degree.specs.declared.Degree.the-variants.{Four, Six, Seven}
 use Rattle.degree.specs.Degree.{bits, size, order}
 use Rattle.field.specs.Field.{double, timesPower, power}
-use Rattle.laws.specs.Digits.{sumOver, ones, digits}
+use Rattle.laws.specs.Digits.{sumOver, onesIn, digits}
 use Rattle.laws.specs.working.Digits.{pack}
 use Rattle.field.proofs.Powers.{power-lt}
 use Rattle.line.specs.Codeword.{Codeword}
@@ -90,7 +90,7 @@ bits-one h zero = h
 bits-one h (suc i) = omega arith
 
 -- the parity of a word with one more cell
-parity-last : (w : List ℕ) (b : ℕ) → b < 2 → ones (w ++ (b ∷ [])) % 2 ≡ bitXor (ones w % 2) b
+parity-last : (w : List ℕ) (b : ℕ) → b < 2 → onesIn (w ++ (b ∷ [])) % 2 ≡ bitXor (onesIn w % 2) b
 unfolding sumOver
 parity-last w b h =
     sym (sum-ones (w ++ (b ∷ []))) ∙ sum-append (λ i. 1) w (b ∷ [])
@@ -184,24 +184,24 @@ module _ (d : Degree) where
     unfolding encodeLine
     line-codeword h =
         let b = body m in
-        let x = ones b % 2 in
+        let x = onesIn b % 2 in
         let z = zero-both b (body-sum m) in
         let long : length (b ++ (x ∷ [])) ≡ size d = length-append b (x ∷ []) ∙ omega (arith, length-front, inverse d .room) in
-        let small : Bits (b ++ (x ∷ [])) = bits-append b (x ∷ []) (bits-append (checkCells d m) m (checks-bits m) h) (bits-one (digit-lt (ones b))) in
+        let small : Bits (b ++ (x ∷ [])) = bits-append b (x ∷ []) (bits-append (checkCells d m) m (checks-bits m) h) (bits-one (digit-lt (onesIn b))) in
         let front : take (order d) (b ++ (x ∷ [])) ≡ b = take-at b (x ∷ []) (order d) length-front in
         record {
           word = record { long = long; small = small };
           first = ap (sumOver (λ i. power d i)) front ∙ z .0;
           third = ap (sumOver (λ i. power d (3 * i))) front ∙ z .1;
-          even = word-parity d (record { long = long; small = small }) ∙ parity-last b x (digit-lt (ones b)) ∙ xor-self x;
+          even = word-parity d (record { long = long; small = small }) ∙ parity-last b x (digit-lt (onesIn b)) ∙ xor-self x;
         }
 
     -- that holds the message
     pub line-holds : messageOf d (encodeLine d m) ≡ m
     unfolding encodeLine
     line-holds =
-        rw (append-assoc, drop-at (checkCells d m) (m ++ (ones (body m) % 2 ∷ [])) (checkSize d) (length-checks m))
-        (take-at m (ones (body m) % 2 ∷ []) (messageSize d) l)
+        rw (append-assoc, drop-at (checkCells d m) (m ++ (onesIn (body m) % 2 ∷ [])) (checkSize d) (length-checks m))
+        (take-at m (onesIn (body m) % 2 ∷ []) (messageSize d) l)
 
   -- and the only one
   pub line-only : (c : List ℕ) → Codeword d c → c ≡ encodeLine d (messageOf d c)
@@ -218,9 +218,9 @@ module _ (d : Degree) where
       sym (take-all (suc (order d)) c (omega arith)) ∙ take-suc c (order d) 0 (omega arith) ∙ ap (λ (x : List ℕ). x ++ (b ∷ [])) front in
       let ea : a ≡ checkCells d m =
       checks-only a m (length-take-le (checkSize d) c (omega arith)) (take-bits (checkSize d) c (C .word .small)) (ap (sumOver (sums d)) (sym front) ∙ both-zero (take (order d) c) (C .first) (C .third)) in
-      let eb : ones (a ++ m) % 2 ≡ b =
-      xor-eq (sym (parity-last (a ++ m) b (C .word .small (order d))) ∙ ap (λ (w : List ℕ). ones w % 2) (sym whole) ∙ sym (word-parity d (C .word)) ∙ C .even) in
-      whole ∙ ap (λ (x : ℕ). (a ++ m) ++ (x ∷ [])) (sym eb) ∙ ap (λ (x : List ℕ). (x ++ m) ++ (ones (x ++ m) % 2 ∷ [])) ea
+      let eb : onesIn (a ++ m) % 2 ≡ b =
+      xor-eq (sym (parity-last (a ++ m) b (C .word .small (order d))) ∙ ap (λ (w : List ℕ). onesIn w % 2) (sym whole) ∙ sym (word-parity d (C .word)) ∙ C .even) in
+      whole ∙ ap (λ (x : ℕ). (a ++ m) ++ (x ∷ [])) (sym eb) ∙ ap (λ (x : List ℕ). (x ++ m) ++ (onesIn (x ++ m) % 2 ∷ [])) ea
 
   -- two codewords that hold one message are equal
   pub same-message : (c e : List ℕ) → Codeword d c → Codeword d e → messageOf d c ≡ messageOf d e → c ≡ e
@@ -240,7 +240,7 @@ module _ (d : Degree) where
     weight = λ a. bitAt (checksFor d (after a)) i;
     small = λ a. bit-at-lt (checksFor d (after a)) i;
     same = λ m l b.
-        List·getD-append (body m) (ones (body m) % 2 ∷ []) 0 i (omega (arith, length-body m))
+        List·getD-append (body m) (onesIn (body m) % 2 ∷ []) 0 i (omega (arith, length-body m))
         ∙ List·getD-append (checkCells d m) m 0 i (omega (arith, length-checks m))
         ∙ digits-at (checkSize d) (checksFor d (sumOver after m)) i h
         ∙ sum-map (λ x. bitAt (sumDigits (entry d) (checkSize d) x) i) after m (then-adds (digit-adds i) (digits-adds (entry d) (checkSize d)));
@@ -253,7 +253,7 @@ module _ (d : Degree) where
     small = unit-lt c;
     same = λ m l b.
         let s = getD-append-add (checkCells d m) m c 0 in
-        List·getD-append (body m) (ones (body m) % 2 ∷ []) 0 (checkSize d + c) (omega (arith, length-body m))
+        List·getD-append (body m) (onesIn (body m) % 2 ∷ []) 0 (checkSize d + c) (omega (arith, length-body m))
         ∙ (rw (length-checks m) at s)
         ∙ sym (sum-unit c m ∙ bit-one (b c));
   }
@@ -268,7 +268,7 @@ module _ (d : Degree) where
     weight = λ a. bitXor (checkParity (after a)) 1;
     small = λ a. xor-lt 1 (checkParity (after a)) 1 (sum-lt 1 (λ i. 1) (λ i. omega arith) (digits (checkSize d) (checksFor d (after a)))) (omega arith);
     same = λ m l b.
-        getD-at (body m) (ones (body m) % 2) [] 0 (order d) (length-front m l)
+        getD-at (body m) (onesIn (body m) % 2) [] 0 (order d) (length-front m l)
         ∙ sym (sum-ones (body m)) ∙ sum-append (λ i. 1) (checkCells d m) m
         ∙ ap (λ (x : ℕ). bitXor x (sumOver (λ i. 1) m)) (sum-map checkParity after m (then-adds (digits-adds (λ i. 1) (checkSize d)) (digits-adds (entry d) (checkSize d))))
         ∙ sym (sum-both (λ a. checkParity (after a)) (λ i. 1) m);

@@ -7,7 +7,7 @@ use Prim.Native.Nat.{ℕ, _+_, _^_}
 use lib.ListN.{replicate}
 use Rattle.degree.specs.declared.Degree.the-variants.{Seven}
 use Rattle.field.specs.Field.{double, timesPower}
-use Rattle.laws.specs.Digits.{sumOver, ones}
+use Rattle.laws.specs.Digits.{sumOver, onesIn}
 use Rattle.laws.specs.Searches.{firstOf}
 use Rattle.line.specs.Cells.{erasures, distance, fillingWord, filled, flip}
 use Rattle.line.specs.Codeword.{isCodeword}
@@ -27,10 +27,10 @@ abbrev tied : List ℕ
 tied = put 1 (0 ∷ 1 ∷ []) (put 2 (69 ∷ 78 ∷ []) long)
 
 pub high-decides : decode (bounded Seven) tied (fillingWord 0 (2 ^ 5 + 2 ^ 14)) ≡ Found H
-unfolding bounded within2 oneFlipped twoFlipped itself firstOf flip isCodeword ones sumOver double timesPower decode filled erasures distance
+unfolding bounded within2 oneFlipped twoFlipped itself firstOf flip isCodeword onesIn sumOver double timesPower decode filled erasures distance
 high-decides = refl
 
 -- the same bits in the low number are for the known cells 5 and 14
 pub low-does-not : decode (bounded Seven) tied (fillingWord (2 ^ 5 + 2 ^ 14) 0) ≡ Found long
-unfolding bounded within2 oneFlipped twoFlipped itself firstOf flip isCodeword ones sumOver double timesPower decode filled erasures distance
+unfolding bounded within2 oneFlipped twoFlipped itself firstOf flip isCodeword onesIn sumOver double timesPower decode filled erasures distance
 low-does-not = refl

@@ -1,8 +1,8 @@
 -- Packed lists of cells: the word that packs a list, bit by bit, and what the word operations on packed lines give.
 -- Assumes nothing.
 use mathlib.Core.Path.{_≡_, refl, sym, ap, ap₂, _∙_}
-use mathlib.Core.Bool.{Bool, true, false, cond, _&&_, _||_, not}
-use mathlib.Core.List.{List, [], _∷_, _++_}
+use mathlib.Core.Bool.{Bool, true, false, _&&_, _||_, not}
+use mathlib.Core.List.{List, [], _∷_}
 use Prim.Native.Nat.{ℕ, zero, suc, _+_, _-_, _*_, _/_, _%_, _^_, _≤_, _<_}
 use native.Mathlib.Nat.{pow-suc, mod-lt, suc-inj, zero-lt-suc, zero-div, div-one, mul-assoc, le-of-suc-le-suc, not-suc-le-zero, mul-one, zero-add, add-zero, lt-of-lt-of-le}
 use native.Mathlib.Omega.{arith}

@@ -15,7 +15,7 @@ use Rattle.field.specs.declared.syndrome.Syndrome.{Syndrome}
 use Rattle.degree.specs.Degree.{size, order}
 use Rattle.field.specs.Field.{power}
 use Rattle.field.proofs.Primitive.{primitive}
-use Rattle.laws.specs.Digits.{sumOver, ones, digits}
+use Rattle.laws.specs.Digits.{sumOver, onesIn, digits}
 use Rattle.field.specs.working.Checks.{IsSyndrome}
 use Rattle.field.specs.working.Places.{IsPlace}
 use Rattle.line.specs.declared.packed.Line.{Line}
@@ -49,7 +49,7 @@ word-sums {d} p q =
     record {
       s1 = q .s1 ∙ ap (sumOver (λ i. power d i)) front;
       s3 = q .s3 ∙ ap (sumOver (λ i. power d (3 * i))) front;
-      parity = q .parity ∙ ap (λ (l : List ℕ). ones l % 2) (word-digits (size d) (le-refl (size d)) p);
+      parity = q .parity ∙ ap (λ (l : List ℕ). onesIn l % 2) (word-digits (size d) (le-refl (size d)) p);
     }
 
 -- and so is its place
@@ -57,7 +57,7 @@ pub word-place : {d : Degree} {ws : List ℕ} {w r : ℕ} → PacksWord (size d)
 word-place {d} p q =
     let front = word-digits (order d) (omega arith) p in
     record {
-      parity = q .parity ∙ ap (λ (l : List ℕ). ones l % 2) (word-digits (size d) (le-refl (size d)) p);
+      parity = q .parity ∙ ap (λ (l : List ℕ). onesIn l % 2) (word-digits (size d) (le-refl (size d)) p);
       fits = q .fits ∙ rw front;
     }
 

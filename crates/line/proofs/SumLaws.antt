@@ -10,7 +10,7 @@ use lib.Bits.{bitXor, xor-comm}
 use lib.Dec.{eqb}
 use lib.ListN.{length, set, take}
 use lib.Seq.{getD-take, take-set-lt, take-set-le}
-use Rattle.laws.specs.Digits.{sumOver, ones}
+use Rattle.laws.specs.Digits.{sumOver, onesIn}
 use Rattle.laws.proofs.DigitSums.{sum-flip as flip-sum}
 use Rattle.line.specs.Cells.{cell, distance, flip}
 use Rattle.line.specs.working.OneCell.{differs}
@@ -23,8 +23,8 @@ unfolding flip
 sum-flip f w i b h = flip-sum f w i h (b i) ∙ xor-comm (sumOver f w) (f i)
 
 -- a flip turns the parity
-pub ones-flip : (w : List ℕ) (i : ℕ) → Bits w → i < length w → (ones (flip i w) + ones w) % 2 ≡ 1
-unfolding ones flip
+pub ones-flip : (w : List ℕ) (i : ℕ) → Bits w → i < length w → (onesIn (flip i w) + onesIn w) % 2 ≡ 1
+unfolding onesIn flip
 ones-flip [] i b h = absurd (not-suc-le-zero h)
 ones-flip (zero ∷ bs) zero b h = omega arith
 ones-flip (suc zero ∷ bs) zero b h = omega arith
@@ -33,8 +33,8 @@ ones-flip (c ∷ bs) (suc i) b h = omega (arith, ones-flip bs i (λ j. b (suc j)
 
 -- two words have an even distance exactly if their parities are equal
 pub ones-distance : (c e : List ℕ) → Bits c → Bits e → length c ≡ length e
-    → (ones c + ones e + distance c e) % 2 ≡ 0
-unfolding ones distance
+    → (onesIn c + onesIn e + distance c e) % 2 ≡ 0
+unfolding onesIn distance
 ones-distance [] [] hc he l = refl
 ones-distance [] (e ∷ es) hc he l = absurd (omega arith)
 ones-distance (c ∷ cs) [] hc he l = absurd (omega arith)
@@ -44,8 +44,8 @@ ones-distance (c ∷ cs) (e ∷ es) hc he l =
     one : ℕ → ℕ
     one c = elim (eqb c 1) [ true ↦ 1 | false ↦ 0 ]
 
-    go : (c e : ℕ) → c < 2 → e < 2 → (ones cs + ones es + distance cs es) % 2 ≡ 0
-        → (one c + ones cs + (one e + ones es) + (differs c e + distance cs es)) % 2 ≡ 0
+    go : (c e : ℕ) → c < 2 → e < 2 → (onesIn cs + onesIn es + distance cs es) % 2 ≡ 0
+        → (one c + onesIn cs + (one e + onesIn es) + (differs c e + distance cs es)) % 2 ≡ 0
     go zero zero a b h = omega arith
     go zero (suc zero) a b h = omega arith
     go (suc zero) zero a b h = omega arith

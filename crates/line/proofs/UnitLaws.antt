@@ -5,7 +5,7 @@
 use mathlib.Core.Path.{_≡_, refl, sym, ap, ap₂, _∙_, subst}
 use mathlib.Core.Bool.{Bool, true, false, cond}
 use mathlib.Core.List.{List, [], _∷_, _++_}
-use Prim.Native.Nat.{ℕ, _+_, _-_, _*_, _%_, _^_, _<_, _≤_}
+use Prim.Native.Nat.{ℕ, _+_, _*_, _%_, _^_, _<_, _≤_}
 use native.Mathlib.Nat.{mul-one}
 use native.Mathlib.Numerals.{add-one}
 use native.Mathlib.Omega.{arith}
@@ -15,7 +15,7 @@ use lib.ListN.{length, getD, take}
 use lib.Pow.{pow-lt}
 use lib.Seq.{take-all}
 use Rattle.laws.specs.working.Bits.{bitAt}
-use Rattle.laws.specs.Digits.{sumOver, ones, digits}
+use Rattle.laws.specs.Digits.{sumOver, onesIn, digits}
 use Rattle.laws.specs.working.Digits.{pack}
 use Rattle.laws.specs.working.Sums.{xorTo}
 use Rattle.laws.proofs.Bits.{bit-one}
@@ -57,7 +57,7 @@ module _ (d : Degree) where
   unfoldable pub unitWord : ℕ → ℕ
   unitWord a =
       let c = digits (checkSize d) (checksFor d (sumsAt (checkSize d + a))) in
-      (ones c + 1) % 2 * 2 ^ order d + (2 ^ a * 2 ^ checkSize d + pack c)
+      (onesIn c + 1) % 2 * 2 ^ order d + (2 ^ a * 2 ^ checkSize d + pack c)
 
   -- the units are made from these check cells
   unfoldable pub units? : List ℕ → Bool
@@ -69,13 +69,13 @@ module _ (d : Degree) where
 
   -- an encoded line as a number
   encode-word : (m : List ℕ) → length m ≡ messageSize d
-      → pack (encodeLine d m) ≡ ones (checkCells d m ++ m) % 2 * 2 ^ order d + (pack m * 2 ^ checkSize d + pack (checkCells d m))
+      → pack (encodeLine d m) ≡ onesIn (checkCells d m ++ m) % 2 * 2 ^ order d + (pack m * 2 ^ checkSize d + pack (checkCells d m))
   unfolding encodeLine
   encode-word m l =
       let c = checkCells d m in
       let e : length (c ++ m) ≡ order d = length-body d m ∙ omega (arith, l, inverse d .room) in
-      pack-append (c ++ m) (ones (c ++ m) % 2 ∷ [])
-      ∙ rw (pack-one (ones (c ++ m) % 2) (digit-lt (ones (c ++ m))), e, pack-append c m, length-checks d m)
+      pack-append (c ++ m) (onesIn (c ++ m) % 2 ∷ [])
+      ∙ rw (pack-one (onesIn (c ++ m) % 2) (digit-lt (onesIn (c ++ m))), e, pack-append c m, length-checks d m)
 
   -- the message whose one 1 is cell a
   abbrev unitAt : ℕ → List ℕ
@@ -88,8 +88,8 @@ module _ (d : Degree) where
       let c = checkCells d m in
       let s : sumOver (λ i. sums d (checkSize d + i)) m ≡ sums d (checkSize d + a) = digits-power (λ i. sums d (checkSize d + i)) (messageSize d) a h in
       let o : sumOver (λ i. 1) m ≡ 1 = digits-power (λ i. 1) (messageSize d) a h in
-      let parity : ones (c ++ m) % 2 ≡ (ones c + 1) % 2 =
-      sym (sum-ones (c ++ m)) ∙ sum-append (λ i. 1) c m ∙ ap₂ bitXor (sum-ones c) o ∙ xor-one (ones c) in
+      let parity : onesIn (c ++ m) % 2 ≡ (onesIn c + 1) % 2 =
+      sym (sum-ones (c ++ m)) ∙ sum-append (λ i. 1) c m ∙ ap₂ bitXor (sum-ones c) o ∙ xor-one (onesIn c) in
       rw (sums-at (checkSize d + a)) (sym (encode-word m (digits-length (messageSize d) (2 ^ a)) ∙ rw (parity, pack-digits (messageSize d) (2 ^ a) (pow-lt h), s)))
 
   -- what a passed test says

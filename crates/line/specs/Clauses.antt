@@ -1,6 +1,6 @@
 -- The short clauses that settle a message, and the count of a line. Document 01, "Outgoing messages". The messages
 -- themselves are defined without them (`Decoding`); that each clause gives the message is a law, and only the count names them.
-use mathlib.Core.Bool.{Bool, true, false, cond, not, _&&_, _||_}
+use mathlib.Core.Bool.{Bool, false, cond, not, _&&_, _||_}
 use mathlib.Core.List.{List}
 use Prim.Native.Nat.{ℕ, _+_}
 use lib.Dec.{eqb, leb}
@@ -12,7 +12,7 @@ use Rattle.line.specs.declared.clause.Clause.{Clause}
 use Rattle.line.specs.declared.clause.Clause.the-variants.{Equal, Crowded, Both, Neither, Agreeing, Unchanged, Open, Afresh, Channel}
 use Rattle.line.specs.Cells.{cell, isErased, erasures, few, distance, filled, designedDistance, radius}
 use Rattle.line.specs.Bounded.{Answer, Found, Failed, orBack}
-use Rattle.line.specs.Decoding.{choice, replaced, decoded}
+use Rattle.line.specs.Decoding.{replaced}
 
 -- the decodings that a cell costs beyond the two of its line
 abbrev pub cost : Clause → ℕ

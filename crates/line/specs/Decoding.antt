@@ -1,6 +1,6 @@
 -- Line decoding (Algorithm 1 of source document 000, with 6 for its designed distance), and outgoing messages, here called
 -- extrinsic messages. Both go over a decoder of full words, `dec`, which is `bounded d` in every contract.
-use mathlib.Core.Bool.{Bool, true, false, cond}
+use mathlib.Core.Bool.{cond}
 use mathlib.Core.List.{List, [], _∷_}
 use Prim.Native.Nat.{ℕ, zero, suc}
 use lib.Dec.{ltb}

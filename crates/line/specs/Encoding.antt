@@ -2,7 +2,7 @@
 use mathlib.Core.List.{List, [], _∷_, _++_}
 use Prim.Native.Nat.{ℕ, _+_, _-_, _*_, _%_}
 use lib.ListN.{getD}
-use Rattle.laws.specs.Digits.{sumOver, ones, digits}
+use Rattle.laws.specs.Digits.{sumOver, onesIn, digits}
 use Rattle.degree.specs.declared.Degree.{Degree}
 use Rattle.degree.specs.declared.Degree.the-variants.{Four, Six, Seven}
 use Rattle.degree.specs.Degree.{bits, size, order}
@@ -39,4 +39,4 @@ module _ (d : Degree) where
 
   -- a line: its check cells, the message, and the parity cell, which makes the number of ones even
   unfoldable pub encodeLine : List ℕ → List ℕ
-  encodeLine m = (checkCells m ++ m) ++ (ones (checkCells m ++ m) % 2 ∷ [])
+  encodeLine m = (checkCells m ++ m) ++ (onesIn (checkCells m ++ m) % 2 ∷ [])

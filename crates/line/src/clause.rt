@@ -12,12 +12,11 @@ ghost use mathlib.Core.List.{List};
 ghost use Prim.Native.Nat.{ℕ, _<_};
 ghost use lib.Dec.{eqb, ltb};
 ghost use Rattle.degree.specs.Degree.{size};
-ghost use Rattle.line.specs.working.Packed.{IsLine, PacksWord};
-ghost use Rattle.line.specs.Cells.{cell, filled, designedDistance, radius};
+ghost use Rattle.line.specs.working.Packed.{IsLine};
+ghost use Rattle.line.specs.Cells.{cell, designedDistance, radius};
 ghost use Rattle.line.specs.Bounded.{bounded};
 ghost use Rattle.line.specs.Clauses.{firstFit, clause};
 ghost use Rattle.words.specs.working.Word.{value, width};
-ghost use Rattle.line.specs.working.Tries.{Answers};
 ghost use Rattle.line.specs.working.Fillings.{TrialOf, Sees, Based};
 
 // What settles the message at a cell: document 01's clauses in their order. A side says which filling's codeword is in reach

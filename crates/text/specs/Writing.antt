@@ -3,9 +3,6 @@ use mathlib.Core.Path.{_≡_}
 use mathlib.Core.List.{List, _++_}
 use Prim.Native.Nat.{ℕ, _+_, _≤_}
 use lib.ListN.{length, take, drop}
-use Rattle.text.specs.declared.turning.Turn.{Turn}
-use Rattle.text.specs.declared.turning.Turn.the-variants.{ToCells, ToCharacters}
-use Rattle.text.specs.Text.{cellOf, charOf}
 
 -- `text` was written into `old` from `at` on, within it: all before and after keeps its value. The next place to write is `next`.
 pub record Wrote (old : List ℕ) (at : ℕ) (text new : List ℕ) (next : ℕ) : Type 0 where

@@ -1,7 +1,7 @@
 -- `read_input` meets its contract. The loop's invariant: the bytes that were read lie within the buffer. The measure is the room that is
 -- left, and one more while there may be more to read.
 -- Assumes nothing.
-use mathlib.Core.Path.{_≡_, refl, sym, _∙_}
+use mathlib.Core.Path.{_≡_, refl, _∙_}
 use mathlib.Core.Bool.{cond}
 use Prim.Native.Nat.{_+_, _-_, _≤_}
 use native.Mathlib.Omega.{arith}

@@ -1,6 +1,6 @@
 -- `line::clause::clause_at` meets its contract: by cases of document 01's conditions.
 -- Assumes nothing.
-use mathlib.Core.Path.{_≡_, sym, _∙_}
+use mathlib.Core.Path.{sym, _∙_}
 use mathlib.Core.Bool.{true, false}
 use borrow.Author.Needs.{needs}
 use Rattle.degree.specs.Degree.{size}

@@ -5,7 +5,7 @@ use mathlib.Core.Path.{refl}
 use Rattle.degree.specs.declared.Degree.the-variants.{Four, Six, Seven}
 use Rattle.field.specs.Field.{double}
 use Rattle.field.proofs.PowerTable.{productsFrom}
-use Rattle.laws.specs.Digits.{sumOver, ones, digits}
+use Rattle.laws.specs.Digits.{sumOver, onesIn, digits}
 use Rattle.line.specs.Encoding.{checksFor}
 use Rattle.line.specs.working.Units.{unitOf}
 use Rattle.line.proofs.UnitLaws.{unitWord, units?, units-rule}
@@ -44,7 +44,7 @@ same-length : tie.Need-same-length
 same-length c = search needs
 
 returns : tie.Need-returns
-unfolding unitOf units? unitWord checksFor sumOver ones digits productsFrom double
+unfolding unitOf units? unitWord checksFor sumOver onesIn digits productsFrom double
 returns c =
     let known = c .before .before .before .before .before .enum-told .given .1 in
     rw known (units-rule Four _ tt refl (rw known at (c .before .before .put-units .ensures)))
@@ -53,7 +53,7 @@ same-length-2 : tie.Need-same-length-2
 same-length-2 c = search needs
 
 returns-2 : tie.Need-returns-2
-unfolding unitOf units? unitWord checksFor sumOver ones digits productsFrom double
+unfolding unitOf units? unitWord checksFor sumOver onesIn digits productsFrom double
 returns-2 c =
     let known = c .before .before .before .before .before .enum-told2 .given .1 in
     rw known (units-rule Six _ tt refl (rw known at (c .before .before .put-units2 .ensures)))
@@ -62,7 +62,7 @@ same-length-3 : tie.Need-same-length-3
 same-length-3 c = search needs
 
 returns-3 : tie.Need-returns-3
-unfolding unitOf units? unitWord checksFor sumOver ones digits productsFrom double
+unfolding unitOf units? unitWord checksFor sumOver onesIn digits productsFrom double
 returns-3 c =
     let known = c .before .before .before .before .before .enum-told3 .given .1 in
     rw known (units-rule Seven _ tt refl (rw known at (c .before .before .put-units3 .ensures)))
