@@ -6,6 +6,7 @@ mod PackedEncoding
 mod Loops
 pub mod Refusing
 pub mod RefusalExamples
+mod PromiseExamples
 pub mod RowLook
 mod PackedLaws
 mod HalfLaws
@@ -18,4 +19,5 @@ pub mod SentArrays
 pub mod ClosedLaws
 pub mod HalfLines
 pub mod FillingOrder
+pub mod SheetExamples
 pub mod Fillings

@@ -17,6 +17,7 @@ pub mod ClauseLaws
 pub mod CountLaws
 pub mod Examples
 pub mod ClauseExamples
+pub mod PromiseExamples
 pub mod CodeExamples
 pub mod FillingNumbers
 pub mod LongExamples
