@@ -9,8 +9,10 @@ use lib.Dec.{T, eqb}
 use lib.ListN.{take, replicate, set}
 use Rattle.line.specs.Cells.{cell}
 use Rattle.line.specs.Refusals.{refusal, atMost}
-use Rattle.blocks.specs.Blocks.{packed, content, fletcher, blockOf, isFile, formed, summed, sound, unpacked}
-use Rattle.blocks.specs.Entries.{readTests, writeTests}
+use Rattle.array.specs.Arrays.{lines}
+use Rattle.blocks.specs.declared.entry.ReadAnswer.{ReadAnswer}
+use Rattle.blocks.specs.Blocks.{packed, content, fletcher, blockOf, isFile, formed, summed, sound, unpacked, sheetIn}
+use Rattle.blocks.specs.Entries.{readTests, writeTests, readNumbers, ReadDone, WriteDone}
 
 -- ---- sums of texts that are commonly used to test Fletcher's: "abcde" has 240 and 200, "abcdefgh" 39 and 6. No sum is 255.
 
@@ -108,3 +110,25 @@ calls =
 pub table : map refusal calls ≡ 0 ∷ 5 ∷ 3 ∷ 0 ∷ 5 ∷ 5 ∷ 5 ∷ 6 ∷ 6 ∷ 0 ∷ 6 ∷ 7 ∷ 0 ∷ 7 ∷ 7 ∷ 5 ∷ 6 ∷ 3 ∷ 3 ∷ 4 ∷ 3 ∷ 0 ∷ []
 unfolding readTests writeTests isFile formed summed sound fletcher unpacked atMost
 table = refl
+
+-- ---- what the reader and the writer promise: the refusal and the sheet number, and every cell or byte
+
+abbrev ReadTells : (f : List ℕ) → ℕ × ℕ → List ℕ → Type 0
+ReadTells f n left = (after : List ℕ) (a : ReadAnswer) → ReadDone f (replicate 4096 7) [] after a → (readNumbers a ≡ n) × (after ≡ left)
+
+-- a sheet of zeros with the number 4660, which is 18 and 52; a cell of 3; no byte
+pub read-numbers :
+    ReadTells (faulty 0 4660 0 0 76 57 ++ (faulty 1 4660 0 1 77 57 ++ faulty 2 4660 0 2 78 57)) (0, 4660) blank
+    × ReadTells (faulty 0 0 4 3 9 237 ++ (second ++ third)) (7, 0) (replicate 4096 7)
+    × ReadTells [] (5, 0) (replicate 4096 7)
+unfolding readTests isFile formed summed sound fletcher unpacked atMost sheetIn lines
+read-numbers = (λ after no h. (rw (← h .refusal, ← h .number) refl, h .cells), λ after no h. (rw (← h .refusal, ← h .number) refl, h .cells), λ after no h. (rw (← h .refusal, ← h .number) refl, h .cells))
+
+abbrev WriteTells : (cells : List ℕ) → ℕ → Type 0
+WriteTells cells n =
+    (after : List ℕ) (no : ℕ) → WriteDone 249 cells (replicate 1536 7) after no → (no ≡ n) × (after ≡ replicate 1536 7)
+
+-- a cell of 3; a cell too few
+pub write-refused : WriteTells (set blank 4095 3) 4 × WriteTells (take 4095 blank) 3
+unfolding writeTests atMost
+write-refused = (λ after no h. (h .refusal, h .bytes), λ after no h. (h .refusal, h .bytes))

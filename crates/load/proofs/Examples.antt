@@ -6,10 +6,10 @@ use mathlib.Core.List.{List, [], _∷_, map}
 use Prim.Native.Nat.{ℕ, zero, suc, _-_, _^_}
 use lib.ListN.{replicate, set}
 use Rattle.line.specs.Decoding.{listTo}
-use Rattle.line.specs.Refusals.{refusal, atMost}
+use Rattle.line.specs.Refusals.{refusal, given, atMost}
 use Rattle.array.specs.Refusals.{codingTests}
 use Rattle.load.specs.Load.{start, stirred, grown, next, drawn, exchanged, shuffled, order, changed, damaged}
-use Rattle.load.specs.Entries.{loadTests}
+use Rattle.load.specs.Entries.{loadTests, Loaded}
 
 -- ---- the shifts alone: the first number that implementations of Marsaglia's generator give for the seed of his paper
 
@@ -91,3 +91,19 @@ calls =
 pub table : map refusal calls ≡ 0 ∷ 0 ∷ 0 ∷ 0 ∷ 0 ∷ 1 ∷ 3 ∷ 3 ∷ 4 ∷ 8 ∷ 9 ∷ 9 ∷ 9 ∷ 9 ∷ 9 ∷ 8 ∷ 4 ∷ 3 ∷ 1 ∷ 0 ∷ 9 ∷ []
 unfolding loadTests codingTests atMost
 table = refl
+
+-- ---- what the load promises of refused calls: the number, and the cells as they were
+
+abbrev LoadTells : (seed wrong unsure : ℕ) (message : List ℕ) → ℕ → Type 0
+LoadTells seed wrong unsure message n =
+    (after : List ℕ) (no : ℕ) → Loaded 4 seed wrong unsure message (replicate 256 7) after no → (no ≡ n) × (after ≡ replicate 256 7)
+
+pub load-refused :
+    LoadTells 1 3 5 (blank 48) 3
+    × LoadTells 1 3 5 (set (blank 49) 0 2) 4
+    × LoadTells 0 3 5 (blank 49) 8
+    × LoadTells 0 200 57 (blank 49) 8
+    × LoadTells 1 200 57 (blank 49) 9
+unfolding given loadTests codingTests atMost
+load-refused =
+    (λ after no h. (h .refusal, h .cells), λ after no h. (h .refusal, h .cells), λ after no h. (h .refusal, h .cells), λ after no h. (h .refusal, h .cells), λ after no h. (h .refusal, h .cells))

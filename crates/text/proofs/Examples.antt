@@ -1,11 +1,15 @@
--- Examples that the checker computes: decimal numbers, and what is printed for a first line that is refused and for one that no
--- line follows.
+-- Examples that the checker computes: decimal numbers, and what is printed for a first line that is refused, for one that no line
+-- follows, and for whole sheets with one fault and with two.
 -- Assumes nothing.
 use mathlib.Core.Path.{_≡_, refl}
-use mathlib.Core.List.{List, [], _∷_}
+use mathlib.Core.Bool.{cond}
+use mathlib.Core.List.{List, [], _∷_, _++_}
 use Prim.Native.Nat.{ℕ}
+use lib.Dec.{eqb}
+use lib.ListN.{replicate}
 use Rattle.line.specs.Refusals.{given}
-use Rattle.text.specs.Text.{shaped, sheetTests, decimalDigits, decimal, numberText, numbersText, refusalText, printed}
+use Rattle.array.specs.Arrays.{lines}
+use Rattle.text.specs.Text.{shaped, known, sheetTests, decimalDigits, decimal, numberText, numbersText, refusalText, printed}
 
 zero-is : decimal 0 ≡ 48 ∷ []
 unfolding decimalDigits decimal
@@ -56,3 +60,29 @@ no-lines = refl
 no-long-lines : printed (55 ∷ 10 ∷ []) ≡ refused 51
 unfolding printed given sheetTests shaped refusalText numbersText numberText decimalDigits decimal
 no-long-lines = refl
+
+-- ---- sheets of degree 4, by one of their lines
+
+-- sixteen lines 0000000000000000, but line 9
+abbrev sheet : List ℕ → List ℕ
+sheet l = 52 ∷ 10 ∷ lines (λ i. cond (eqb i 9) l (replicate 16 48 ++ (10 ∷ []))) 16
+
+-- what is printed of such sheets
+abbrev printedOf : List (List ℕ)
+printedOf =
+    -- another character, in the first cell and in the last: 2 and a space
+    printed (sheet (50 ∷ (replicate 15 48 ++ (10 ∷ []))))
+    ∷ printed (sheet (replicate 15 48 ++ (32 ∷ 10 ∷ [])))
+    -- a cell too few, a cell too many, a newline in a cell's place, another byte in a newline's
+    ∷ printed (sheet (replicate 15 48 ++ (10 ∷ [])))
+    ∷ printed (sheet (replicate 17 48 ++ (10 ∷ [])))
+    ∷ printed (sheet (10 ∷ (replicate 15 48 ++ (10 ∷ []))))
+    ∷ printed (sheet (replicate 16 48 ++ (49 ∷ [])))
+    -- another character and a cell too few
+    ∷ printed (sheet (50 ∷ (replicate 14 48 ++ (10 ∷ []))))
+    ∷ []
+
+-- "4 0 0 0" twice, then "3 0 0 0"
+sheets-refused : printedOf ≡ refused 52 ∷ refused 52 ∷ refused 51 ∷ refused 51 ∷ refused 51 ∷ refused 51 ∷ refused 51 ∷ []
+unfolding printed given sheetTests shaped known refusalText numbersText numberText decimalDigits decimal lines
+sheets-refused = refl
