@@ -28,14 +28,18 @@ static int all_are(const uint8_t *bytes, size_t length, uint8_t byte)
 
 /* ---- The samples. */
 
-/* Reads a stored file; it must have this length. */
+/* Reads a stored file; it must have this length. Says what is wrong where it can't. */
 static int load(const char *path, uint8_t *bytes, size_t length)
 {
     FILE *stored = fopen(path, "rb");
     int whole;
-    if (!stored) return 0;
+    if (!stored) {
+        printf("%s can't be opened: this is to be run from the root of the repository\n", path);
+        return 0;
+    }
     whole = fread(bytes, 1, length, stored) == length && fgetc(stored) == EOF;
     fclose(stored);
+    if (!whole) printf("%s is not a file of %d bytes\n", path, (int)length);
     return whole;
 }
 
@@ -68,9 +72,12 @@ static void mend(void)
     static const uint64_t filling[PUGDREL_FILLING_NUMBERS(1, N)]; /* zeros */
     uint64_t read[PUGDREL_READ_REPORT] = {7}, decoded[PUGDREL_DECODE_REPORT];
     uint16_t number;
-    size_t i, damaged = 0;
-    check(load("samples/degree6.blocks", recording, sizeof recording), "there is a recording");
-    check(load_text("samples/degree6.txt", cells) && load_text("samples/degree6-sent.txt", sent), "there are the sheet's texts");
+    size_t i, damaged = 0, left = 0;
+    int recorded = load("samples/degree6.blocks", recording, sizeof recording);
+    int texts = load_text("samples/degree6.txt", cells) && load_text("samples/degree6-sent.txt", sent);
+    check(recorded, "there is a recording");
+    check(texts, "there are the sheet's texts");
+    if (!recorded || !texts) return; /* nothing to mend */
     check(pugdrel_read_blocks(recording, sizeof recording, received, sizeof received, read, PUGDREL_READ_REPORT) == PUGDREL_OK,
           "the recording is read");
     check(memcmp(received, cells, CELLS) == 0 && read[PUGDREL_SHEET_NUMBER] == 0x1234, "it is the damaged sheet, of its number");
@@ -82,8 +89,15 @@ static void mend(void)
     holds(sent, number, "it is read as it was written");
     check(pugdrel_write_blocks(number, received, sizeof received, file, sizeof file) == PUGDREL_OK, "what was read is written");
     check(memcmp(file, recording, sizeof file) == 0, "as the recording's own bytes");
-    for (i = 0; i < CELLS; i++) damaged += received[i] != sent[i];
-    printf("sheet %d: %d of %d cells wrong or unsure, all of them mended\n", (int)number, (int)damaged, CELLS);
+    for (i = 0; i < CELLS; i++) {
+        damaged += received[i] != sent[i];
+        left += mended[i] != sent[i];
+    }
+    printf("sheet %d: %d of %d cells wrong or unsure, ", (int)number, (int)damaged, CELLS);
+    if (left == 0)
+        printf("all of them mended\n");
+    else
+        printf("%d after mending\n", (int)left);
 }
 
 /* ---- Bytes that are known. */
