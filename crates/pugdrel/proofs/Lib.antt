@@ -4,3 +4,4 @@ mod ArrayTelling
 mod LineTelling
 mod SheetTelling
 mod FileTelling
+mod Examples
