@@ -5,3 +5,4 @@ mod LineTelling
 mod SheetTelling
 mod FileTelling
 mod Examples
+mod DecodeExamples
