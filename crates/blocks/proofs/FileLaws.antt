@@ -2,7 +2,7 @@
 -- and writing what was read yields the file's own bytes.
 -- Assumes nothing.
 use mathlib.Core.Path.{_≡_, refl, sym, ap, ap₂, _∙_}
-use mathlib.Core.Bool.{Bool, true, false, cond, not, _&&_}
+use mathlib.Core.Bool.{Bool, true, false, cond, _&&_}
 use mathlib.Core.List.{List, [], _∷_, _++_, append-assoc, append-nil}
 use Prim.Native.Nat.{ℕ, zero, suc, _+_, _-_, _*_, _/_, _%_, _<_, _≤_}
 use native.Mathlib.Omega.{arith}
@@ -102,7 +102,7 @@ module _ (b s : ℕ) (m : List ℕ) where
   zeros-length : length zeros ≡ 506 - rowsIn b * 16
   zeros-length = ap length zeros-are ∙ length-replicate (506 - rowsIn b * 16) 0
 
-  pub content-length : length (content b s m) ≡ 510
+  content-length : length (content b s m) ≡ 510
   unfolding content
   content-length = omega (arith, length-append rows zeros, rows-length, zeros-length, rows-few b)
 

@@ -86,17 +86,6 @@ unpacked-packed (suc n) (a ∷ b ∷ c ∷ e ∷ m) h l =
     let d = pairs-of a b c e (h 0) (h 1) (h 2) (h 3) in
     rw (four-more n, d .0, d .1, d .2, d .3) (ap {B = List ℕ} (λ t. a ∷ b ∷ c ∷ e ∷ t) (unpacked-packed n m (λ i. h (suc (suc (suc (suc i))))) (omega arith)))
 
--- no more cells are packed than the bytes have
-pub packed-take : (n : ℕ) (m : List ℕ) → n * 4 ≤ length m → packed n (take (n * 4) m) ≡ packed n m
-unfolding packed
-packed-take zero m l = refl
-packed-take (suc n) [] l = absurd (omega arith)
-packed-take (suc n) (a ∷ []) l = absurd (omega arith)
-packed-take (suc n) (a ∷ b ∷ []) l = absurd (omega arith)
-packed-take (suc n) (a ∷ b ∷ c ∷ []) l = absurd (omega arith)
-packed-take (suc n) (a ∷ b ∷ c ∷ e ∷ m) l =
-    rw (four-more n) (ap {B = List ℕ} (λ t. (a + 4 * b + 16 * c + 64 * e) ∷ t) (packed-take n m (omega arith)))
-
 -- ---- what is packed fits bytes, and what is put apart is below 4
 
 pub packed-bytes : (n : ℕ) (m : List ℕ) → ((i : ℕ) → getD m i 0 < 4) → Bytes (packed n m)

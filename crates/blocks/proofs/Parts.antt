@@ -37,12 +37,11 @@ module _ (front old part : List ℕ) (e : ℕ) (here : length front ≡ e) where
       ∙ ap (λ (x : List ℕ). (front ++ part) ++ x) (drop-of-length-le old {i = e + length part} (omega arith))
       ∙ append-nil (front ++ part)
 
--- three parts, of p, q and more entries
-module _ (p q : ℕ) (old one two three : List ℕ) (e1 : length one ≡ p) (e2 : length two ≡ q) (e3 : length old ≡ p + q + length three) where
-  abbrev after2 : List ℕ
-  after2 = putMid p q (one ++ drop p old) two
-
-  pub three-parts : putMid (p + q) (length after2 - (p + q)) after2 three ≡ (one ++ two) ++ three
+-- three parts, which fill the slice
+module _ (p q r : ℕ) (old one two three : List ℕ) (e1 : length one ≡ p) (e2 : length two ≡ q) (e3 : length three ≡ r) (e : length old ≡ p + q + r) where
+  pub three-parts : putMid (p + q) r (putMid p q (one ++ drop p old) two) three ≡ (one ++ two) ++ three
   three-parts =
       let both-long : length (one ++ two) ≡ p + q = length-append one two ∙ omega arith in
-      rw (put-behind one old two p e1 q e2) (put-last (one ++ two) old three (p + q) both-long e3)
+      rw (put-behind one old two p e1 q e2) (put-behind (one ++ two) old three (p + q) both-long r e3)
+      ∙ ap (λ (x : List ℕ). ((one ++ two) ++ three) ++ x) (drop-of-length-le old {i = p + q + r} (omega arith))
+      ∙ append-nil ((one ++ two) ++ three)

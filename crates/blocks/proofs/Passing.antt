@@ -2,16 +2,16 @@
 -- Assumes nothing.
 use mathlib.Core.Path.{_≡_, refl, sym, ap, _∙_}
 use mathlib.Core.List.{List, [], _∷_, _++_, append-assoc}
-use Prim.Native.Nat.{ℕ, zero, suc, _+_, _*_, _<_, _≤_}
+use Prim.Native.Nat.{ℕ, zero, suc, _+_, _*_, _%_, _<_, _≤_}
 use native.Mathlib.Numerals.{add-one}
 use native.Mathlib.Omega.{arith}
-use lib.ListN.{length, getD, take, drop, set}
-use lib.Seq.{sets, sets-eq, take-suc, take-all, length-take-le}
+use lib.ListN.{length, getD, take, drop, set, replicate, length-append, length-replicate, getD-replicate, List·getD-append}
+use lib.Seq.{sets, sets-eq, take-suc, take-all, length-take-le, getD-at, getD-append-add}
 use Rattle.line.specs.Cells.{cell}
 use Rattle.words.specs.working.Bytes.{joined, bytesOf}
 use Rattle.array.proofs.WrittenLines.{written, written-then, written-length, written-all}
 use Rattle.blocks.specs.declared.sums.Sums.{Sums}
-use Rattle.blocks.specs.working.Adding.{Bytes, both, added, Room}
+use Rattle.blocks.specs.working.Adding.{Bytes, both, added, Room, endOf}
 use Rattle.blocks.specs.Blocks.{unpacked}
 use Rattle.blocks.proofs.AddingLaws.{added-next, room-fewer, room-added}
 use Rattle.blocks.proofs.PackedCells.{length-unpacked, unpacked-next, four-bytes}
@@ -142,16 +142,33 @@ take-four (a ∷ b ∷ []) h = absurd (omega arith)
 take-four (a ∷ b ∷ c ∷ []) h = absurd (omega arith)
 take-four (a ∷ b ∷ c ∷ e ∷ l) h = refl
 
-pub put-four-bytes : (l : List ℕ) (a b c e : ℕ) → length l ≡ 4 → set (set (set (set l 0 a) 1 b) 2 c) 3 e ≡ a ∷ b ∷ c ∷ e ∷ []
+pub put-four-bytes : (l : List ℕ) (a b c e : ℕ) → 4 ≤ length l → set (set (set (set l 0 a) 1 b) 2 c) 3 e ≡ a ∷ b ∷ c ∷ e ∷ drop 4 l
 put-four-bytes [] a b c e h = absurd (omega arith)
 put-four-bytes (x ∷ []) a b c e h = absurd (omega arith)
 put-four-bytes (x ∷ y ∷ []) a b c e h = absurd (omega arith)
 put-four-bytes (x ∷ y ∷ z ∷ []) a b c e h = absurd (omega arith)
-put-four-bytes (x ∷ y ∷ z ∷ u ∷ []) a b c e h = refl
-put-four-bytes (x ∷ y ∷ z ∷ u ∷ v ∷ l) a b c e h = absurd (omega arith)
+put-four-bytes (x ∷ y ∷ z ∷ u ∷ l) a b c e h = refl
 
-pub put-two-bytes : (l : List ℕ) (a b : ℕ) → length l ≡ 2 → set (set l 0 a) 1 b ≡ a ∷ b ∷ []
-put-two-bytes [] a b h = absurd (omega arith)
-put-two-bytes (x ∷ []) a b h = absurd (omega arith)
-put-two-bytes (x ∷ y ∷ []) a b h = refl
-put-two-bytes (x ∷ y ∷ z ∷ l) a b h = absurd (omega arith)
+-- ---- the end of a block: zeros and two sums
+
+module _ (s : ℕ × ℕ) (n : ℕ) where
+  pub end-long : length (endOf s n) ≡ n + 2
+  end-long = length-append (replicate n 0) (added s (replicate n 0) .0 % 255 ∷ added s (replicate n 0) .1 % 255 ∷ []) ∙ omega (arith, length-replicate {A = ℕ} n 0)
+
+  pub end-zero : (i : ℕ) → i < n → 0 ≡ getD (endOf s n) i 0
+  end-zero i h =
+      sym
+      (List·getD-append (replicate n 0) (added s (replicate n 0) .0 % 255 ∷ added s (replicate n 0) .1 % 255 ∷ []) 0 i (rw (length-replicate {A = ℕ} n 0) h)
+      ∙ getD-replicate n i 0 0 h)
+
+  -- the two sums behind n zeros
+  pub end-put : {old new : List ℕ} {i a b : ℕ} → Putting (endOf s n) old new i → i ≡ n → a ≡ added s (replicate n 0) .0 % 255 → b ≡ added s (replicate n 0) .1 % 255
+      → set (set new n a) (n + 1) b ≡ endOf s n
+  end-put {a} {b} w e ea eb =
+      let first : getD (endOf s n) n 0 ≡ added s (replicate n 0) .0 % 255 =
+      getD-at (replicate n 0) (added s (replicate n 0) .0 % 255) (added s (replicate n 0) .1 % 255 ∷ []) 0 n (length-replicate n 0) in
+      let second : getD (endOf s n) (n + 1) 0 ≡ added s (replicate n 0) .1 % 255 =
+      rw (length-replicate {A = ℕ} n 0) at (getD-append-add (replicate n 0) (added s (replicate n 0) .0 % 255 ∷ added s (replicate n 0) .1 % 255 ∷ []) 1 0) in
+      let one = putting-next (rw e at w) a (ea ∙ sym first) (rw end-long (omega arith)) in
+      let both = putting-next one b (eb ∙ sym second) (rw end-long (omega arith)) in
+      putting-end both (rw end-long (omega arith))

@@ -1,22 +1,23 @@
 -- The parts of a block that is read, header, rows and filler: their sums are those of bytes 0 to 509. And the three blocks of a file.
 -- Assumes nothing.
-use mathlib.Core.Path.{_≡_, refl, sym, ap, ap₂, _∙_}
+use mathlib.Core.Path.{_≡_, refl, sym, ap, ap₂, subst, _∙_}
 use mathlib.Core.Bool.{Bool, true, false, _&&_, and-assoc, and-true}
-use mathlib.Core.List.{List, [], _∷_, _++_, append-assoc}
+use mathlib.Core.List.{List, [], _∷_, _++_}
 use Prim.Native.Nat.{ℕ, zero, suc, _+_, _-_, _*_, _/_, _%_, _<_}
 use native.Mathlib.Omega.{arith}
 use borrow.Author.Tests.{eq-eqb}
 use borrow.Rule.Slice.PartMut.{putMid}
 use lib.Dec.{eqb}
-use lib.ListN.{length, take, drop, length-append, length-drop, take-append-drop}
-use lib.Seq.{length-take-le, take-take, take-add}
+use lib.ListN.{length, take, drop, length-append}
+use lib.Seq.{length-take-le}
 use Rattle.line.specs.Cells.{cell}
 use Rattle.array.specs.Arrays.{lines}
 use Rattle.array.proofs.ArrayLaws.{length-line}
+use Rattle.array.proofs.WrittenLines.{part-at}
 use Rattle.blocks.specs.declared.reading.Found.{Found}
-use Rattle.blocks.specs.Blocks.{rowsIn, fletcher, block, numberIn, sheetNumber, formed, summed, rowBytes, filler, sound, sheetIn}
+use Rattle.blocks.specs.Blocks.{rowsIn, fletcher, block, numberIn, sheetNumber, formed, summed, rowBytes, filler, unpacked, sound, sheetIn}
 use Rattle.blocks.specs.working.Adding.{Bytes, added, Room}
-use Rattle.blocks.specs.working.Found.{BlockRead, FileRead}
+use Rattle.blocks.specs.working.Found.{BlockRead, PartRead, FileRead}
 use Rattle.blocks.proofs.AddingLaws.{added-append, room-start, room-fewer, room-added, sums-reduced}
 use Rattle.blocks.proofs.PackedCells.{length-unpacked}
 use Rattle.blocks.proofs.Parts.{drop-take, three-parts}
@@ -100,48 +101,59 @@ formed-first f {p} e =
 
 -- ---- the file that was read
 
-pub last-block : (f : List ℕ) → length f ≡ 1536 → take (length f - 1024) (drop 1024 f) ≡ block f 2
-last-block f e = let n : length f - 1024 ≡ 512 = omega arith in ap (λ (x : ℕ). take x (drop 1024 f)) n
+-- a block and its cells as they are lent, where n is the number of its rows
+pub part-read : (b : ℕ) (f old : List ℕ) {n : ℕ} {y : List ℕ} {r : Found} → n ≡ rowsIn b → BlockRead b (take (512 * b + 512 - 512 * b) (drop (512 * b) f)) y r
+    → PartRead b f old (putMid (1984 * b) (1984 * b + 64 * n - 1984 * b) old y) r
+part-read b f old {n} {y} {r} e w =
+    let place : 512 * b ≡ b * 512 = omega arith in
+    let here : BlockRead b (block f b) y r = rw (part-at (512 * b) 512 f place) at w in
+    let many : 1984 * b + 64 * n - 1984 * b ≡ rowsIn b * 64 = omega arith in
+    record {
+      read = subst (λ (c : List ℕ). BlockRead b (block f b) c r) (here .cells) here;
+      put = ap₂ (λ (x : ℕ) (c : List ℕ). putMid (1984 * b) x old c) many (here .cells);
+    }
 
-module _ (f old : List ℕ) (lf : length f ≡ 1536) (lo : length old ≡ 4096) {y1 y2 y3 : List ℕ} {r1 r2 r3 : Found}
-    (one : BlockRead 0 (block f 0) y1 r1) (two : BlockRead 1 (block f 1) y2 r2) (three : BlockRead 2 (take (length f - 1024) (drop 1024 f)) y3 r3) where
-  last : BlockRead 2 (block f 2) y3 r3
-  last = rw (last-block f lf) at three
+module _ (f old : List ℕ) (lf : length f ≡ 1536) (lo : length old ≡ 4096) {c1 c2 c3 : List ℕ} {r1 r2 r3 : Found}
+    (one : PartRead 0 f old c1 r1) (two : PartRead 1 f c1 c2 r2) (three : PartRead 2 f c2 c3 r3) where
+  abbrev cells : ℕ → List ℕ
+  cells b = unpacked (rowBytes (block f b) b)
 
-  cells-long : (b : ℕ) {y : List ℕ} {r : Found} → b < 3 → BlockRead b (block f b) y r → length y ≡ rowsIn b * 64
-  cells-long b h r =
-      ap length (r .cells) ∙ length-unpacked (rowBytes (block f b) b) ∙ omega (arith, rows-long b (block f b) (length-line 3 512 f b h lf))
+  cells-long : (b : ℕ) → b < 3 → length (cells b) ≡ rowsIn b * 64
+  cells-long b h = length-unpacked (rowBytes (block f b) b) ∙ omega (arith, rows-long b (block f b) (length-line 3 512 f b h lf))
 
-  abbrev left : List ℕ
-  left = let c = putMid 1984 1984 (y1 ++ drop 1984 old) y2 in putMid 3968 (length c - 3968) c y3
-
-  left-is : left ≡ (y1 ++ y2) ++ y3
+  left-is : c3 ≡ (cells 0 ++ cells 1) ++ cells 2
   left-is =
-      three-parts 1984 1984 old y1 y2 y3 (cells-long 0 (omega arith) one) (cells-long 1 (omega arith) two) (omega (arith, lo, cells-long 2 (omega arith) last))
+      three .put
+      ∙ ap (λ (x : List ℕ). putMid 3968 128 x (cells 2)) (two .put ∙ ap (λ (x : List ℕ). putMid 1984 1984 x (cells 1)) (one .put))
+      ∙ three-parts 1984 1984 128 old (cells 0) (cells 1) (cells 2) (cells-long 0 (omega arith)) (cells-long 1 (omega arith)) (cells-long 2 (omega arith)) lo
 
-  pub left-long : length left ≡ length old
+  pub left-long : length c3 ≡ length old
   left-long =
-      ap length left-is ∙ length-append (y1 ++ y2) y3
-      ∙ omega (arith, length-append y1 y2, cells-long 0 (omega arith) one, cells-long 1 (omega arith) two, cells-long 2 (omega arith) last, lo)
+      ap length left-is ∙ length-append (cells 0 ++ cells 1) (cells 2)
+      ∙ omega (arith, length-append (cells 0) (cells 1), cells-long 0 (omega arith), cells-long 1 (omega arith), cells-long 2 (omega arith), lo)
 
   pub file-read : {r : Found} → r .number ≡ r1 .number
       → r .formed ≡ ((r1 .formed && (r2 .formed && eqb (r2 .number) (r1 .number))) && (r3 .formed && eqb (r3 .number) (r1 .number)))
-      → r .summed ≡ ((r1 .summed && r2 .summed) && r3 .summed) → r .sound ≡ ((r1 .sound && r2 .sound) && r3 .sound) → FileRead f left r
+      → r .summed ≡ ((r1 .summed && r2 .summed) && r3 .summed) → r .sound ≡ ((r1 .sound && r2 .sound) && r3 .sound) → FileRead f c3 r
   unfolding sheetIn lines
-  file-read en ef es eo = record {
-    number = en ∙ one .number;
-    formed =
-        ef
-        ∙ ap₂ _&&_ (ap₂ _&&_ (formed-first f (one .formed)) (formed-is f 1 (two .formed) (two .number) (one .number))) (formed-is f 2 (last .formed) (last .number) (one .number))
-        ∙ three-all (formed f 0) (formed f 1) (formed f 2);
-    summed =
-        es
-        ∙ ap₂ _&&_ (ap₂ _&&_ (one .summed) (two .summed)) (last .summed)
-        ∙ three-all (summed (block f 0)) (summed (block f 1)) (summed (block f 2));
-    sound =
-        eo
-        ∙ ap₂ _&&_ (ap₂ _&&_ (one .sound) (two .sound)) (last .sound)
-        ∙ three-all (sound (block f 0) 0) (sound (block f 1) 1) (sound (block f 2) 2);
-    cells = left-is ∙ ap₂ (λ (x y : List ℕ). x ++ y) (ap₂ (λ (x y : List ℕ). x ++ y) (one .cells) (two .cells)) (last .cells);
-    bytes = of-three (λ b. Bytes (take 510 (block f b))) (one .bytes) (two .bytes) (last .bytes);
-  }
+  file-read en ef es eo =
+      let x = one .read in
+      let y = two .read in
+      let z = three .read in
+      record {
+        number = en ∙ x .number;
+        formed =
+            ef
+            ∙ ap₂ _&&_ (ap₂ _&&_ (formed-first f (x .formed)) (formed-is f 1 (y .formed) (y .number) (x .number))) (formed-is f 2 (z .formed) (z .number) (x .number))
+            ∙ three-all (formed f 0) (formed f 1) (formed f 2);
+        summed =
+            es
+            ∙ ap₂ _&&_ (ap₂ _&&_ (x .summed) (y .summed)) (z .summed)
+            ∙ three-all (summed (block f 0)) (summed (block f 1)) (summed (block f 2));
+        sound =
+            eo
+            ∙ ap₂ _&&_ (ap₂ _&&_ (x .sound) (y .sound)) (z .sound)
+            ∙ three-all (sound (block f 0) 0) (sound (block f 1) 1) (sound (block f 2) 2);
+        cells = left-is;
+        bytes = of-three (λ b. Bytes (take 510 (block f b))) (x .bytes) (y .bytes) (z .bytes);
+      }

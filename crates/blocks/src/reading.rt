@@ -1,5 +1,6 @@
 // One pass over a file. Each byte is read once: it is added to the sums of its block, and is tested or put apart into cells.
 use crate::cells::four_cells;
+use crate::cells::rows_in;
 use crate::sums::Sums;
 use crate::sums::add_byte;
 use crate::sums::header_sums;
@@ -8,14 +9,14 @@ use line::refusals::at_most;
 use words::bytes::put_four;
 ghost use mathlib.Core.Path.{_≡_};
 ghost use mathlib.Core.Bool.{_&&_};
-ghost use Prim.Native.Nat.{_*_, _≤_};
+ghost use Prim.Native.Nat.{_*_, _≤_, _<_};
 ghost use lib.Dec.{eqb};
 ghost use lib.ListN.{length, take};
 ghost use Rattle.line.specs.Cells.{cell};
 ghost use Rattle.line.specs.Refusals.{atMost};
 ghost use Rattle.blocks.specs.Blocks.{rowsIn, numberIn, unpacked};
 ghost use Rattle.blocks.specs.working.Adding.{both, added, Room, Bytes};
-ghost use Rattle.blocks.specs.working.Found.{BlockRead, FileRead};
+ghost use Rattle.blocks.specs.working.Found.{BlockRead, PartRead, FileRead};
 
 // What is found in a block, or in all: the sheet number, and whether tests 5, 6 and 7 are passed.
 pub struct Found {
@@ -123,13 +124,24 @@ fn in_all(first: Found, second: Found, third: Found) -> Found
     }
 }
 
+// A block of a file, whose rows go to their place among the cells of the sheet.
+fn read_part(block: usize, file: &[u8], cells: &mut [u8]) -> Found
+    requires { ⌜ (block < 3) × (length (now file) ≡ 1536) × (length (now cells) ≡ 4096) ⌝ }
+    ensures { λ r. ⌜ PartRead block (now (file .entry)) (now (cells .entry)) (now (cells .exit)) r ⌝ }
+{
+    let at = 512 * block;
+    let from = 1984 * block;
+    let end = from + 64 * rows_in(block);
+    read_block(block, &file[at..at + 512], &mut cells[from..end])
+}
+
 // All three blocks. The cells are written whatever is found: they are no caller's.
 pub fn read_file(file: &[u8], cells: &mut [u8]) -> Found
     requires { ⌜ (length (now file) ≡ 1536) × (length (now cells) ≡ 4096) ⌝ }
     ensures { λ r. ⌜ FileRead (now (file .entry)) (now (cells .exit)) r ⌝ }
 {
-    let first = read_block(0, &file[..512], &mut cells[..1984]);
-    let second = read_block(1, &file[512..1024], &mut cells[1984..3968]);
-    let third = read_block(2, &file[1024..], &mut cells[3968..]);
+    let first = read_part(0, file, cells);
+    let second = read_part(1, file, cells);
+    let third = read_part(2, file, cells);
     in_all(first, second, third)
 }

@@ -1,7 +1,7 @@
--- The two sums before they are reduced, and bytes.
-use mathlib.Core.List.{List, [], _∷_}
-use Prim.Native.Nat.{ℕ, _+_, _*_, _<_, _≤_}
-use lib.ListN.{getD}
+-- The two sums before they are reduced, bytes, and the two ends of a block.
+use mathlib.Core.List.{List, [], _∷_, _++_}
+use Prim.Native.Nat.{ℕ, _+_, _*_, _/_, _%_, _<_, _≤_}
+use lib.ListN.{getD, replicate}
 use Rattle.blocks.specs.declared.sums.Sums.{Sums}
 
 -- numbers that fit a byte
@@ -20,3 +20,11 @@ added s (x ∷ xs) = added (s .0 + x, s .1 + (s .0 + x)) xs
 pub record Room (n : ℕ) (s : ℕ × ℕ) : Type 0 where
   pub first : s .0 + 255 * n ≤ 130050
   pub second : s .1 + 130050 * n ≤ 66325500
+
+-- bytes 0 to 3 of block b of a sheet whose number is s
+abbrev pub headOf : (b s : ℕ) → List ℕ
+headOf b s = b ∷ 6 ∷ s / 256 ∷ s % 256 ∷ []
+
+-- n bytes of zero behind those whose sums are s, and the sums of all of them as they are kept
+abbrev pub endOf : ℕ × ℕ → ℕ → List ℕ
+endOf s n = replicate n 0 ++ (added s (replicate n 0) .0 % 255 ∷ added s (replicate n 0) .1 % 255 ∷ [])

@@ -54,16 +54,16 @@ shared-slice-read-summed : tie.Need-shared-slice-read-summed
 shared-slice-read-summed c = search needs
 
 reduced-requires : tie.Need-reduced-requires
-reduced-requires c κs = search needs
+reduced-requires c κs = tt
 
 shared-slice-read-summed-2 : tie.Need-shared-slice-read-summed-2
 shared-slice-read-summed-2 c = search needs
 
 reduced-requires-2 : tie.Need-reduced-requires-2
-reduced-requires-2 c κs = search needs
+reduced-requires-2 c κs = tt
 
 at-most-requires : tie.Need-at-most-requires
-at-most-requires c κs = search needs
+at-most-requires c κs = tt
 
 same-length : tie.Need-same-length
 same-length c = search needs

@@ -1,68 +1,71 @@
--- `writing::write_file` meets its contract: the three blocks, one behind the other.
+-- `writing::write_file` meets its contract. The loop's invariant: the first blocks are written, all behind them is as it was.
 -- Assumes nothing.
 use native.Mathlib.Omega.{arith}
-use mathlib.Core.Path.{sym}
-use lib.Seq.{length-take-le}
-use Rattle.blocks.proofs.WrittenParts.{file-written}
-use borrow.Author.Needs.{needs}
+use Prim.Native.Nat.{_-_}
+use Rattle.array.proofs.WrittenLines.{Lining, lining-start, lining-length, lining-room, lining-free, lining-part, lining-put, lining-all}
+use Rattle.blocks.specs.Blocks.{blockOf, fileOf}
+use Rattle.blocks.proofs.FileLaws.{block-length}
 use Rattle.blocks.proofs.writing.write_file.Statement.{statement}
 use Rattle.blocks.proofs.writing.write_file.Tie as tie
 
-slice-relend-prefix-write-block : tie.Need-slice-relend-prefix-write-block
-slice-relend-prefix-write-block c = search needs
+abbrev Inv-loop : tie.InvT-loop
+Inv-loop number cells file₀ block₀ at₀ file block at = Lining 512 (λ b. blockOf b number cells) 3 0 file₀ file block at
 
-slice-aggregate-write-block : tie.Need-slice-aggregate-write-block
-slice-aggregate-write-block c = let s = c .before .before .before in sym (length-take-le 512 (s .args .file .now) (omega (arith, s .pre .1)))
+abbrev μ-loop : tie.MeasureT-loop
+μ-loop number cells file₀ block₀ at₀ file block at = 3 - block
 
-write-block-requires : tie.Need-write-block-requires
-write-block-requires c κs = let s = c .before .before .before in (omega arith, s .pre .0, length-take-le 512 (s .args .file .now) (omega (arith, s .pre .1)))
+loop-holds : tie.Need-loop-holds Inv-loop μ-loop
+loop-holds c = lining-start (λ b h. block-length b _ _) (omega (arith, c .before .before .pre .1))
 
-sub-write-block : tie.Need-sub-write-block
-sub-write-block c = search needs
+add-end : tie.Need-add-end Inv-loop μ-loop
+add-end c = omega (arith, lining-room (c .before .loop .inv) (c .loop-test .taken))
 
-part-write-block-start : tie.Need-part-write-block-start
-part-write-block-start c = search needs
+sub-write-block : tie.Need-sub-write-block Inv-loop μ-loop
+sub-write-block c = omega arith
 
-part-write-block-end : tie.Need-part-write-block-end
-part-write-block-end c = search needs
+part-write-block-start : tie.Need-part-write-block-start Inv-loop μ-loop
+part-write-block-start c = omega arith
 
-write-block-requires-2 : tie.Need-write-block-requires-2
-write-block-requires-2 c κs = search needs
+part-write-block-end : tie.Need-part-write-block-end Inv-loop μ-loop
+part-write-block-end c = lining-free (c .before .loop .inv) (c .loop-test .taken)
 
-sub-write-block-2 : tie.Need-sub-write-block-2
-sub-write-block-2 c = search needs
+write-block-requires : tie.Need-write-block-requires Inv-loop μ-loop
+write-block-requires c κs =
+    let q = c .before .before in
+    (c .before .loop-test .taken, q .before .before .before .pre .0, lining-part (q .loop .inv) (c .before .loop-test .taken))
 
-part-write-block-start-2 : tie.Need-part-write-block-start-2
-part-write-block-start-2 c = search needs
+add-block : tie.Need-add-block Inv-loop μ-loop
+add-block c = omega arith
 
-part-write-block-end-2 : tie.Need-part-write-block-end-2
-part-write-block-end-2 c = search needs
+loop-less : tie.Need-loop-less Inv-loop μ-loop
+loop-less c = omega arith
 
-write-block-requires-3 : tie.Need-write-block-requires-3
-write-block-requires-3 c κs = search needs
+loop-again : tie.Need-loop-again Inv-loop μ-loop
+loop-again c =
+    let q = c .before .before in
+    lining-put (q .before .before .before .loop .inv) (q .before .before .loop-test .taken) _ (q .write-block .ensures)
 
-same-length : tie.Need-same-length
-same-length c = search needs
+same-length : tie.Need-same-length Inv-loop μ-loop
+same-length c = lining-length (c .before .loop .inv)
 
-returns : tie.Need-returns
-returns c =
-    let s = c .before .before .before .before .before .before .before .before .before .before .before .before .before .before in
-    file-written (s .args .number) (s .args .cells .now) (s .args .file .now) (s .pre .1) (c .before .before .before .before .before .before .before .before .before .before .write-block .ensures) (c .before .before .before .before .before .before .write-block2 .ensures) (c .before .before .write-block3 .ensures)
+returns : tie.Need-returns Inv-loop μ-loop
+unfolding fileOf
+returns c = lining-all (c .before .loop .inv) (c .before .before .before .before .pre .1) (c .loop-test .left)
 
 pub write-file-spec : {M : Type 1} → statement M
 write-file-spec =
     tie.close
     (tie.spec
-    slice-relend-prefix-write-block
-    slice-aggregate-write-block
-    write-block-requires
+    Inv-loop
+    μ-loop
+    loop-holds
+    add-end
     sub-write-block
     part-write-block-start
     part-write-block-end
-    write-block-requires-2
-    sub-write-block-2
-    part-write-block-start-2
-    part-write-block-end-2
-    write-block-requires-3
+    write-block-requires
+    add-block
+    loop-less
+    loop-again
     same-length
     returns)

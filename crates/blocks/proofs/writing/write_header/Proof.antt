@@ -1,5 +1,7 @@
 -- `writing::write_header` meets its contract: four bytes are put and added.
 -- Assumes nothing.
+use native.Mathlib.Omega.{arith}
+use lib.ListN.{length-set}
 use Rattle.blocks.proofs.Passing.{put-four-bytes}
 use borrow.Author.Needs.{needs}
 use Rattle.blocks.proofs.writing.write_header.Statement.{statement}
@@ -18,13 +20,13 @@ slice-write-bytes : tie.Need-slice-write-bytes
 slice-write-bytes c = search needs
 
 slice-write-bytes-2 : tie.Need-slice-write-bytes-2
-slice-write-bytes-2 c = search needs
+slice-write-bytes-2 c = simp length-set (omega arith)
 
 slice-write-bytes-3 : tie.Need-slice-write-bytes-3
-slice-write-bytes-3 c = search needs
+slice-write-bytes-3 c = simp length-set (omega arith)
 
 slice-write-bytes-4 : tie.Need-slice-write-bytes-4
-slice-write-bytes-4 c = search needs
+slice-write-bytes-4 c = simp length-set (omega arith)
 
 header-sums-requires : tie.Need-header-sums-requires
 header-sums-requires c κs = search needs
@@ -35,8 +37,7 @@ same-length c = search needs
 returns : tie.Need-returns
 returns c =
     let s = c .before .before in
-    let e = put-four-bytes (s .args .bytes .now) _ _ _ _ (s .pre .1) in
-    (e, rw e (c .header-sums .ensures .0))
+    (put-four-bytes (s .args .bytes .now) _ _ _ _ (s .pre .1), c .header-sums .ensures .0)
 
 pub write-header-spec : {M : Type 1} → statement M
 write-header-spec =
