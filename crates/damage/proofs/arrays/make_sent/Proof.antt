@@ -1,6 +1,5 @@
 -- `arrays::make_sent` meets its contract. The loop's invariant: the cells are bits so far. Assumes nothing.
 use Prim.Native.Nat.{_+_, _≤_, _-_}
-use native.Mathlib.Omega.{arith}
 use borrow.Author.Needs.{needs}
 use Rattle.second.specs.working.Loops.{Below}
 use Rattle.second.proofs.Ranges.{below-set, below-lines}

@@ -1,6 +1,5 @@
 -- `lines::flipped` meets its contract. A flipped bit is a bit. Assumes nothing.
 use native.Mathlib.Omega.{arith}
-use borrow.Author.Needs.{needs}
 use Rattle.second.proofs.Ranges.{flipped-bit}
 use Rattle.damage.proofs.lines.flipped.Statement.{statement}
 use Rattle.damage.proofs.lines.flipped.Tie as tie
