@@ -14,7 +14,7 @@ ghost use lib.ListN.{length, getD};
 ghost use Rattle.second.specs.working.Loops.{written};
 ghost use Rattle.second.specs.working.Codes.{cellsOf};
 ghost use Rattle.second.specs.working.Encoding.{messageArea};
-ghost use Rattle.second.specs.working.Loads.{shifted, grownTimes, drawsOf, markOf, changed, changedTo, markedCells, sentCells, damagedCell, loadedCells, isDegree, longRefusal, sizedRefusal, loadRefusal, LoadedOrKept};
+ghost use Rattle.second.specs.working.Loads.{shifted, grownTimes, drawsOf, markOf, changed, changedTo, markedCells, sentCells, damagedCell, isDegree, hitsRefusal, callRefusal, loadRefusal, LoadedOrKept};
 
 // ---- draws
 
@@ -168,57 +168,46 @@ fn put_damaged(sent: &Cells, marks: &Cells, cells: &mut [u8])
     }
 }
 
-fn put_load(n: usize, seed: u64, wrong: u64, unsure: u64, message: &[u8], cells: &mut [u8])
-    requires { ⌜ (15 < n) × (n ≤ 128) × (length (now message) ≡ messageArea n) × (length (now cells) ≡ n * n) × (wrong + unsure ≤ n * n) ⌝ }
-    ensures { λ _. ⌜ now (cells .exit) ≡ loadedCells n seed wrong unsure (now (message .entry)) (now (cells .entry)) ⌝ }
-{
-    let sent = sent_cells(n, message);
-    let marks = marked_cells(area_of(n), seed, wrong, unsure);
-    put_damaged(&sent, &marks, cells);
-}
-
 // ---- the call
-
-// A call with a right degree and right lengths: "8: seed 0; 9: D + E above n × n; both after 4, in that order".
-fn load_long(n: usize, seed: u64, wrong: u64, unsure: u64, message: &[u8], cells: &mut [u8]) -> u64
-    requires { ⌜ (15 < n) × (n ≤ 128) × (length (now message) ≡ messageArea n) × (length (now cells) ≡ n * n) ⌝ }
-    ensures { λ r. ⌜ (r ≡ longRefusal n seed wrong unsure (now (message .entry))) × LoadedOrKept n seed wrong unsure (now (message .entry)) (now (cells .entry)) r (now (cells .exit)) ⌝ }
-{
-    let area = area_of(n) as u64;
-    if all_below(2, message) {
-        if seed == 0 {
-            8
-        } else if area < wrong {
-            9
-        } else if area - wrong < unsure {
-            9
-        } else {
-            put_load(n, seed, wrong, unsure, message, cells);
-            0
-        }
-    } else {
-        4
-    }
-}
-
-// A call with a right degree.
-fn load_sized(n: usize, seed: u64, wrong: u64, unsure: u64, message: &[u8], cells: &mut [u8]) -> u64
-    requires { ⌜ (15 < n) × (n ≤ 128) ⌝ }
-    ensures { λ r. ⌜ (r ≡ sizedRefusal n seed wrong unsure (now (message .entry)) (length (now (cells .entry)))) × LoadedOrKept n seed wrong unsure (now (message .entry)) (now (cells .entry)) r (now (cells .exit)) ⌝ }
-{
-    if message.len() != message_area(n) {
-        3
-    } else if cells.len() != area_of(n) {
-        3
-    } else {
-        load_long(n, seed, wrong, unsure, message, cells)
-    }
-}
 
 fn is_degree(degree: u64) -> bool
     ensures { λ r. ⌜ r ≡ isDegree degree ⌝ }
 {
     (degree == 4) | (degree == 6) | (degree == 7)
+}
+
+// "8: seed 0; 9: D + E above n × n; both after 4, in that order".
+fn hits_refusal(n: usize, seed: u64, wrong: u64, unsure: u64) -> u64
+    requires { ⌜ (0 < n) × (n ≤ 128) ⌝ }
+    ensures { λ r. ⌜ r ≡ hitsRefusal n seed wrong unsure ⌝ }
+{
+    let area = area_of(n) as u64;
+    if seed == 0 {
+        8
+    } else if area < wrong {
+        9
+    } else if area - wrong < unsure {
+        9
+    } else {
+        0
+    }
+}
+
+// The tests before these two: the degree, the lengths, where `long` is that of the cells, and the message. It is refused as `hits` says
+// where it passes them.
+fn call_refusal(degree: u64, message: &[u8], long: usize, hits: u64) -> u64
+    ensures { λ r. ⌜ r ≡ callRefusal degree (now (message .entry)) long hits ⌝ }
+{
+    let n = cells_of(degree);
+    if is_degree(degree) {
+        if (message.len() == message_area(n)) & (long == area_of(n)) {
+            if all_below(2, message) { hits } else { 4 }
+        } else {
+            3
+        }
+    } else {
+        1
+    }
 }
 
 // Writes a load; gives the refusal number.
@@ -232,9 +221,13 @@ pub fn load(
 ) -> u64
     ensures { λ r. ⌜ (r ≡ loadRefusal degree seed wrong unsure (now (message .entry)) (length (now (cells .entry)))) × LoadedOrKept (cellsOf degree) seed wrong unsure (now (message .entry)) (now (cells .entry)) r (now (cells .exit)) ⌝ }
 {
-    if is_degree(degree) {
-        load_sized(cells_of(degree), seed, wrong, unsure, message, cells)
-    } else {
-        1
+    let n = cells_of(degree);
+    let hits = hits_refusal(n, seed, wrong, unsure);
+    let refusal = call_refusal(degree, message, cells.len(), hits);
+    if refusal == 0 {
+        let sent = sent_cells(n, message);
+        let marks = marked_cells(area_of(n), seed, wrong, unsure);
+        put_damaged(&sent, &marks, cells);
     }
+    refusal
 }

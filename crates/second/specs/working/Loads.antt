@@ -1,5 +1,5 @@
 -- A load, step by step: the draws of all places, the marks of the shuffled order brought back to their cells, and the cells that they hit.
-use mathlib.Core.Bool.{Bool, cond, _||_}
+use mathlib.Core.Bool.{Bool, cond, _&&_, _||_}
 use mathlib.Core.List.{List}
 use mathlib.Core.Path.{_≡_}
 use Prim.Native.Nat.{ℕ, zero, suc, _+_, _-_, _*_, _/_, _%_, _^_, _<_}
@@ -65,22 +65,22 @@ unfoldable pub loadedCells : (n seed wrong unsure : ℕ) (message before : List 
 loadedCells n seed wrong unsure message before =
     written (λ i. i) (λ i. damagedCell (getD (sentCells n message) i 0) (getD (markedCells (n * n) seed wrong unsure) i 0)) (length before) before
 
--- the refusal number of a call with a right degree and right lengths
-abbrev pub longRefusal : (n seed wrong unsure : ℕ) (message : List ℕ) → ℕ
-longRefusal n seed wrong unsure message =
-    cond (allBelow 2 message) (cond (eqb seed 0) 8 (cond (ltb (n * n) (wrong + unsure)) 9 0)) 4
-
--- of a call with a right degree and so many cells
-abbrev pub sizedRefusal : (n seed wrong unsure : ℕ) (message : List ℕ) (long : ℕ) → ℕ
-sizedRefusal n seed wrong unsure message long =
-    cond (eqb (length message) (messageArea n)) (cond (eqb long (n * n)) (longRefusal n seed wrong unsure message) 3) 3
+-- the refusal number by the seed and by how many cells are to be hit
+abbrev pub hitsRefusal : (n seed wrong unsure : ℕ) → ℕ
+hitsRefusal n seed wrong unsure = cond (eqb seed 0) 8 (cond (ltb (n * n) (wrong + unsure)) 9 0)
 
 abbrev pub isDegree : (degree : ℕ) → Bool
 isDegree degree = (eqb degree 4 || eqb degree 6) || eqb degree 7
 
--- of any call
+-- by the degree, the lengths and the message, before that of the hits
+abbrev pub callRefusal : (degree : ℕ) (message : List ℕ) (long hits : ℕ) → ℕ
+callRefusal degree message long hits =
+    cond (isDegree degree)
+    (cond (eqb (length message) (messageArea (cellsOf degree)) && eqb long (cellsOf degree * cellsOf degree)) (cond (allBelow 2 message) hits 4) 3) 1
+
+-- of a call
 abbrev pub loadRefusal : (degree seed wrong unsure : ℕ) (message : List ℕ) (long : ℕ) → ℕ
-loadRefusal degree seed wrong unsure message long = cond (isDegree degree) (sizedRefusal (cellsOf degree) seed wrong unsure message long) 1
+loadRefusal degree seed wrong unsure message long = callRefusal degree message long (hitsRefusal (cellsOf degree) seed wrong unsure)
 
 -- what a call leaves: the load, or the cells as they came
 abbrev pub LoadedOrKept : (n seed wrong unsure : ℕ) (message before : List ℕ) (refusal : ℕ) (after : List ℕ) → Type 0
