@@ -223,6 +223,17 @@ fn clause_by_reach(one: Filling, two: Filling, channel_cell: u8) -> usize
     }
 }
 
+// Six or more unsure cells come in: the cell is decoded afresh where it is one of six and the channel knows it.
+fn clause_of_many(coming: u64, cell: u8, channel_cell: u8) -> usize
+    ensures { λ r. ⌜ r ≤ 8 ⌝ }
+{
+    if (coming == 6) & (cell == 2) & (channel_cell != 2) {
+        AFRESH
+    } else {
+        CHANNEL
+    }
+}
+
 // The clause that settles cell k: the first that fits. `replaced` is the incoming line with the channel's cell k.
 fn clause(
     n: usize,
@@ -236,22 +247,18 @@ fn clause(
     ensures { λ r. ⌜ r ≤ 8 ⌝ }
 {
     let coming = unsure(n, incoming);
-    if 6 < coming {
-        CHANNEL
-    } else if coming == 6 {
-        if (incoming[k] == 2) & (replaced[k] != 2) {
-            AFRESH
-        } else {
-            CHANNEL
-        }
-    } else if incoming[k] == replaced[k] {
+    let cell = incoming[k];
+    let channel_cell = replaced[k];
+    if 6 <= coming {
+        clause_of_many(coming, cell, channel_cell)
+    } else if cell == channel_cell {
         EQUAL
     } else if unsure(n, replaced) == 6 {
         CROWDED
     } else {
         let one = filling_at(n, weights, incoming, replaced, filling, k);
         let two = filling_at(n, weights, incoming, replaced, opposite(filling), k);
-        clause_by_reach(one, two, replaced[k])
+        clause_by_reach(one, two, channel_cell)
     }
 }
 

@@ -28,7 +28,7 @@ loop-again c =
     (search needs, rw (c .one-if .ensures .0, summed .syndrome .ensures, taken .take-line .ensures) (sum-next (isBad (s .n) (s .first) (s .weights .now) (s .cells .now)) (turn .i) (turn .inv .1)), search needs)
 
 returns : tie.Need-returns Inv-loop μ-loop
-returns c = let all : c .before .loop .i ≡ c .before .before .args .n = omega arith in (cc, search needs)
+returns c = let all : c .before .loop .i ≡ c .before .before .args .n = omega arith in (rw all at (c .before .loop .inv .1), search needs)
 
 pub bad-lines-spec : {M : Type 1} → statement M
 bad-lines-spec =

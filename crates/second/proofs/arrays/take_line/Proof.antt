@@ -28,7 +28,7 @@ loop-again c =
 
 returns : tie.Need-returns Inv-loop μ-loop
 unfolding takenLine
-returns c = let all : c .before .loop .j ≡ c .before .before .args .n = omega arith in cc
+returns c = let all : c .before .loop .j ≡ c .before .before .args .n = omega arith in rw all at (c .before .loop .inv .1)
 
 pub take-line-spec : {M : Type 1} → statement M
 take-line-spec =

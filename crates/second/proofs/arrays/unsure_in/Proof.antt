@@ -27,7 +27,7 @@ loop-again c =
     (search needs, rw (c .unsure .ensures .0, taken .take-line .ensures) (sum-next (unsureOf (s .n) (s .cells .now)) (turn .i) (turn .inv .1)), search needs)
 
 returns : tie.Need-returns Inv-loop μ-loop
-returns c = let all : c .before .loop .i ≡ c .before .before .args .n = omega arith in (cc, search needs)
+returns c = let all : c .before .loop .i ≡ c .before .before .args .n = omega arith in (rw all at (c .before .loop .inv .1), search needs)
 
 pub unsure-in-spec : {M : Type 1} → statement M
 unsure-in-spec =

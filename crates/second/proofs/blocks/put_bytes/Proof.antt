@@ -27,7 +27,7 @@ loop-again c =
     (search needs, rw (c .block-byte .ensures) (written-next (λ k. k) (λ k. blockByte (s .number) (s .cells .now) (k / 512) (k % 512)) (turn .at) (s .file .now) (turn .inv .1)), search needs)
 
 returns : tie.Need-returns Inv-loop μ-loop
-returns c = let all : c .before .loop .at ≡ 1536 = omega arith in cc
+returns c = let all : c .before .loop .at ≡ 1536 = omega arith in rw all at (c .before .loop .inv .1)
 
 pub put-bytes-spec : {M : Type 1} → statement M
 put-bytes-spec =

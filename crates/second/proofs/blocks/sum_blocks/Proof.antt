@@ -26,7 +26,7 @@ loop-again c =
     (search needs, rw (put .put-sums .ensures) (summed-next (turn .block) (put .before .before .before .before .before .args .file .now) (turn .inv .1)), search needs)
 
 returns : tie.Need-returns Inv-loop μ-loop
-returns c = let all : c .before .loop .block ≡ 3 = omega arith in cc
+returns c = let all : c .before .loop .block ≡ 3 = omega arith in rw all at (c .before .loop .inv .1)
 
 pub sum-blocks-spec : {M : Type 1} → statement M
 sum-blocks-spec =

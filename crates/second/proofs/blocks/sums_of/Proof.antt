@@ -26,7 +26,7 @@ loop-again c =
     (search needs, rw (c .wide .ensures .0) (sum-a-next byte (turn .p) (turn .inv .1)), rw (c .wide .ensures .0) (sum-b-next byte (turn .p) (turn .inv .1) (turn .inv .2)), search needs, search needs)
 
 returns : tie.Need-returns Inv-loop μ-loop
-returns c = let all : c .before .loop .p ≡ 510 = omega arith in (cc, cc, search needs, search needs)
+returns c = let all : c .before .loop .p ≡ 510 = omega arith in (rw all at (c .before .loop .inv .1), rw all at (c .before .loop .inv .2), c .before .loop .inv .3, c .before .loop .inv .4)
 
 pub sums-of-spec : {M : Type 1} → statement M
 sums-of-spec =

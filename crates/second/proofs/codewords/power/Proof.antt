@@ -1,6 +1,6 @@
 -- `codewords::power` meets its contract. The loop's invariant: x is the power of the turns made. Assumes nothing.
 use Prim.Native.Nat.{_≤_, _-_}
-use mathlib.Core.Path.{_≡_, refl}
+use mathlib.Core.Path.{_≡_, refl, _∙_}
 use native.Mathlib.Omega.{arith}
 use borrow.Author.Needs.{needs}
 use Prim.Native.Nat.{_<_}
@@ -22,10 +22,10 @@ loop-holds c = (search needs, refl, search needs)
 loop-again : tie.Need-loop-again Inv-loop μ-loop
 loop-again c =
     let turn = c .before .before .loop in
-    (search needs, cc (power-next (c .before .before .before .args .n) (turn .counter) (turn .inv .1)), search needs)
+    (search needs, c .times-alpha .ensures .0 ∙ power-next (c .before .before .before .args .n) (turn .counter) (turn .inv .1), search needs)
 
 returns : tie.Need-returns Inv-loop μ-loop
-returns c = let all : c .before .loop .counter ≡ c .before .before .args .exponent = omega arith in (cc, search needs)
+returns c = let all : c .before .loop .counter ≡ c .before .before .args .exponent = omega arith in (rw all at (c .before .loop .inv .1), search needs)
 
 pub power-spec : {M : Type 1} → statement M
 power-spec =

@@ -28,7 +28,7 @@ loop-again c =
     (search needs, rw (c .added .ensures) (xored-next (λ k. cond (eqb (getD (s .t3) k 0) 1) (getD (s .weights .now) k 0) 0) (turn .i) (turn .inv .1)))
 
 returns : tie.Need-returns Inv-loop μ-loop
-returns c = let all : c .before .loop .i ≡ c .before .before .args .n = omega arith in cc
+returns c = let all : c .before .loop .i ≡ c .before .before .args .n = omega arith in rw all at (c .before .loop .inv .1)
 
 pub syndrome-spec : {M : Type 1} → statement M
 syndrome-spec =

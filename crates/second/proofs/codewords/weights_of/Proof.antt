@@ -26,7 +26,7 @@ loop-again c =
     (search needs, rw (c .power2 .ensures .0, c .before .power .ensures .0) (written-next (λ k. k) (weightOf (c .before .before .before .before .args .n)) (turn .i) (replicate 128 0) (turn .inv .1)))
 
 returns : tie.Need-returns Inv-loop μ-loop
-returns c = let all : c .before .loop .i ≡ c .before .before .args .n - 1 = omega arith in cc
+returns c = let all : c .before .loop .i ≡ c .before .before .args .n - 1 = omega arith in rw (c .before .loop .inv .1, all)
 
 pub weights-of-spec : {M : Type 1} → statement M
 weights-of-spec =

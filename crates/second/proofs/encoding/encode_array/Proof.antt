@@ -28,7 +28,7 @@ returns : tie.Need-returns Inv-loop μ-loop
 returns c =
     let s = c .before .before .args in
     let all : c .before .loop .i ≡ s .n + s .n = omega arith in
-    cc
+    rw all at (c .before .loop .inv .1)
 
 pub encode-array-spec : {M : Type 1} → statement M
 encode-array-spec =

@@ -6,7 +6,7 @@ use Rattle.second.proofs.encoding.encode_line.Tie as tie
 
 returns : tie.Need-returns
 unfolding encodedLine
-returns c = cc
+returns c = rw (c .like .ensures .0, c .before .put-checks .ensures, c .before .before .remainder .ensures .0)
 
 pub encode-line-spec : {M : Type 1} → statement M
 encode-line-spec =

@@ -23,10 +23,10 @@ loop-again : tie.Need-loop-again Inv-loop μ-loop
 loop-again c =
     let turn = c .before .loop in
     let s = c .before .before .before .args in
-    (search needs, cc (written-next (λ k. k) (λ k. s .checks / 2 ^ k % 2) (turn .i) (s .line) (turn .inv .1)))
+    (search needs, written-next (λ k. k) (λ k. s .checks / 2 ^ k % 2) (turn .i) (s .line) (turn .inv .1))
 
 returns : tie.Need-returns Inv-loop μ-loop
-returns c = let all : c .before .loop .i ≡ c .before .before .first-message-cell .result = omega arith in cc
+returns c = let all : c .before .loop .i ≡ c .before .before .first-message-cell .result = omega arith in rw (all, c .before .before .first-message-cell .ensures .0) at (c .before .loop .inv .1)
 
 pub put-checks-spec : {M : Type 1} → statement M
 put-checks-spec =

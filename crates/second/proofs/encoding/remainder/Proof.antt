@@ -26,7 +26,7 @@ loop-again c =
     (search needs, rw (c .divide .ensures .0, c .before .coefficient .ensures .0) (remainder-next (s .n) (s .line) (turn .j) (turn .inv .1)), search needs)
 
 returns : tie.Need-returns Inv-loop μ-loop
-returns c = let all : c .before .loop .j ≡ c .before .before .args .n - 1 = omega arith in (cc, search needs)
+returns c = let all : c .before .loop .j ≡ c .before .before .args .n - 1 = omega arith in (rw all at (c .before .loop .inv .1), search needs)
 
 pub remainder-spec : {M : Type 1} → statement M
 remainder-spec =

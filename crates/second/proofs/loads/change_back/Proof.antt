@@ -27,7 +27,7 @@ loop-again c =
 returns : tie.Need-returns Inv-loop μ-loop
 returns c =
     let all : c .before .loop .k ≡ c .before .before .args .area - 1 = omega arith in
-    cc
+    rw all at (c .before .loop .inv .1)
 
 pub change-back-spec : {M : Type 1} → statement M
 change-back-spec =

@@ -29,7 +29,7 @@ loop-again c =
 returns : tie.Need-returns Inv-loop μ-loop
 returns c =
     let all : c .before .loop .k ≡ c .before .before .args .area - 1 = omega arith in
-    cc
+    rw all at (c .before .loop .inv .2)
 
 pub put-draws-spec : {M : Type 1} → statement M
 put-draws-spec =

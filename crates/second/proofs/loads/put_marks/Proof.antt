@@ -26,7 +26,7 @@ loop-again c =
     (search needs, rw (c .mark-of .ensures) (written-next (λ k. k) (markOf (s .wrong) (s .unsure)) (turn .p) (s .marks .now) (turn .inv .1)))
 
 returns : tie.Need-returns Inv-loop μ-loop
-returns c = let all : c .before .loop .p ≡ 16384 = omega arith in cc
+returns c = let all : c .before .loop .p ≡ 16384 = omega arith in rw all at (c .before .loop .inv .1)
 
 pub put-marks-spec : {M : Type 1} → statement M
 put-marks-spec =

@@ -26,7 +26,7 @@ loop-again c =
     (search needs, rw (c .say-byte .ensures .0) (sum-next (isLike 35 (c .before .before .before .before .before .args .line .now)) (turn .i) (turn .inv .1)), search needs)
 
 returns : tie.Need-returns Inv-loop μ-loop
-returns c = let all : c .before .loop .i ≡ length (c .before .before .before .args .line .now) = omega arith in cc
+returns c = let all : c .before .loop .i ≡ length (c .before .before .before .args .line .now) = omega arith in rw all at (c .before .loop .inv .1)
 
 pub say-spec : {M : Type 1} → statement M
 say-spec =
