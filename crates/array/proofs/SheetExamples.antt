@@ -1,7 +1,7 @@
 -- Small sheets of degree 4, decoded by one iteration with filling words of 0: which cells are left, and the count. They say what decode
 -- promises in numbers, so that rows and columns, or two of its numbers, can't change places in the definition and in the code alike.
 -- Assumes nothing.
-use mathlib.Core.Path.{_≡_, refl, sym, ap, _∙_}
+use mathlib.Core.Path.{_≡_, refl, sym, _∙_}
 use mathlib.Core.Bool.{Bool, true, false}
 use mathlib.Core.List.{List, [], _∷_, _++_}
 use Prim.Native.Nat.{ℕ, _+_, _*_, _<_}

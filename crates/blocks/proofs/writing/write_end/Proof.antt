@@ -1,8 +1,8 @@
 -- `writing::write_end` meets its contract. The loop's invariant: of the end, the first i bytes are written, which are zeros.
 -- Assumes nothing.
-use mathlib.Core.Path.{sym, ap, _∙_}
+use mathlib.Core.Path.{ap, _∙_}
 use native.Mathlib.Omega.{arith}
-use Prim.Native.Nat.{ℕ, _-_, _%_, _<_, _≤_}
+use Prim.Native.Nat.{ℕ, _-_, _%_, _≤_}
 use lib.ListN.{length, length-set}
 use Rattle.blocks.specs.working.Adding.{both, endOf}
 use Rattle.blocks.proofs.Passing.{Putting, putting-start, putting-long, putting-next, end-long, end-zero, end-put}
