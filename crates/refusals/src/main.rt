@@ -238,20 +238,14 @@ fn given_number(
     filling: &[u64],
     third: &mut [u8],
 ) -> u64 {
-    if entry == DECODE {
-        decode_number(degree, iterations, one, filling, third)
-    } else if entry == ENCODE {
-        array::encoding::encode(degree, one, third)
-    } else if entry == EXTRACT {
-        array::extraction::extract(degree, one, third)
-    } else if entry == ROW {
-        row_number(degree, one, index)
-    } else if entry == LINE_MESSAGES {
-        messages_number(degree, one, other, third)
-    } else if entry == BOUNDED_DISTANCE {
-        word_number(line::entry::bounded_distance(degree, one))
-    } else {
-        line_number(line::entry::decode_line(degree, one, 0, 0))
+    match entry {
+        DECODE => decode_number(degree, iterations, one, filling, third),
+        ENCODE => array::encoding::encode(degree, one, third),
+        EXTRACT => array::extraction::extract(degree, one, third),
+        ROW => row_number(degree, one, index),
+        LINE_MESSAGES => messages_number(degree, one, other, third),
+        BOUNDED_DISTANCE => word_number(line::entry::bounded_distance(degree, one)),
+        _ => line_number(line::entry::decode_line(degree, one, 0, 0)),
     }
 }
 
@@ -576,22 +570,15 @@ fn asked_by(digit: usize, seed: u64, area: u64) -> Asked
     requires { ⌜ (0 < area) × (area ≤ 16384) ⌝ }
 {
     let part = area / 4;
-    if digit == 0 {
-        ask(seed, part, area - part)
-    } else if digit == 1 {
-        ask(seed, area, 0)
-    } else if digit == 2 {
-        ask(seed, area + 1, 0)
-    } else if digit == 3 {
-        ask(seed, 0, area + 1)
-    } else if digit == 4 {
-        ask(seed, area, 1)
-    } else if digit == 5 {
-        ask(seed, 0xFFFFFFFFFFFFFFFF, 1)
-    } else if digit == 6 {
-        ask(seed, 0x8000000000000000, 0x8000000000000000)
-    } else {
-        ask(seed, 2, 0xFFFFFFFFFFFFFFFF)
+    match digit {
+        0 => ask(seed, part, area - part),
+        1 => ask(seed, area, 0),
+        2 => ask(seed, area + 1, 0),
+        3 => ask(seed, 0, area + 1),
+        4 => ask(seed, area, 1),
+        5 => ask(seed, 0xFFFFFFFFFFFFFFFF, 1),
+        6 => ask(seed, 0x8000000000000000, 0x8000000000000000),
+        _ => ask(seed, 2, 0xFFFFFFFFFFFFFFFF),
     }
 }
 

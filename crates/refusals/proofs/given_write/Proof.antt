@@ -13,5 +13,5 @@ given-write-spec =
     (λ c. sym (length-take-le _ _ (search needs)))
     (λ c. search needs)
     (λ c. sym (length-take-le _ _ (search needs)))
-    (λ c κs. search needs)
-    (λ c. search needs))
+    (λ c κs. tt)
+    (λ c. tt))
