@@ -282,12 +282,10 @@ fn test_line(
     let incoming = incoming_line(n, state, sent, channel);
     let kind = below(state, 3);
     let filling = filling_word(state, kind);
-    if entry == BOUNDED_DISTANCE {
-        test_bounded(n, weights, word, tally);
-    } else if entry == DECODE_LINE {
-        test_decode(n, weights, incoming, filling, tally);
-    } else {
-        test_messages(n, weights, incoming, channel, filling, tally);
+    match entry {
+        BOUNDED_DISTANCE => test_bounded(n, weights, word, tally),
+        DECODE_LINE => test_decode(n, weights, incoming, filling, tally),
+        _ => test_messages(n, weights, incoming, channel, filling, tally),
     }
 }
 
@@ -705,18 +703,13 @@ fn hits_of(kind: u64, n: usize, state: &mut u64) -> Hits
     let wrong = below(state, area + 1);
     let left = area - wrong;
     let unsure = below(state, left + 1);
-    if kind == NO_CELL {
-        so_many(0, 0)
-    } else if kind == ALL_INVERTED {
-        so_many(area, 0)
-    } else if kind == ALL_UNSURE {
-        so_many(0, area)
-    } else if kind == EVERY_CELL {
-        so_many(wrong, left)
-    } else if kind == FEW {
-        so_many(wrong % n, unsure % n)
-    } else {
-        so_many(wrong, unsure)
+    match kind {
+        NO_CELL => so_many(0, 0),
+        ALL_INVERTED => so_many(area, 0),
+        ALL_UNSURE => so_many(0, area),
+        EVERY_CELL => so_many(wrong, left),
+        FEW => so_many(wrong % n, unsure % n),
+        _ => so_many(wrong, unsure),
     }
 }
 
@@ -744,37 +737,21 @@ fn hits_in(n: usize, sent: &Cells, cells: &Cells) -> Hits
     }
 }
 
-// A load by the second implementation or by the entry; gives the refusal number.
-fn call_load(
-    own: bool,
-    degree: u64,
-    seed: u64,
-    asked: Hits,
-    message: &[u8],
-    cells: &mut [u8],
-) -> u64 {
-    if own {
-        second::loads::load(degree, seed, asked.wrong, asked.unsure, message, cells)
-    } else {
-        load::entry::load(degree, seed, asked.wrong, asked.unsure, message, cells)
-    }
-}
-
-// Into room that holds no cell of a sheet.
+// A load by the second implementation or by the entry, into room that holds no cell of a sheet.
 fn loaded(own: bool, n: usize, seed: u64, asked: Hits, message: Message) -> GivenArray
     requires { ⌜ (15 < n) × (n ≤ 128) ⌝ }
 {
+    let degree = degree_of(n);
     let area = area_of(n);
     let long = message_area(n);
     let mut cells = [9u8; 16384];
-    let refusal = call_load(
-        own,
-        degree_of(n),
-        seed,
-        asked,
-        &message[..long],
-        &mut cells[..area],
-    );
+    let lent = &message[..long];
+    let room = &mut cells[..area];
+    let refusal = if own {
+        second::loads::load(degree, seed, asked.wrong, asked.unsure, lent, room)
+    } else {
+        load::entry::load(degree, seed, asked.wrong, asked.unsure, lent, room)
+    };
     GivenArray {
         refusal: refusal,
         cells: cells,

@@ -78,7 +78,7 @@ module _ (b s r : ℕ) (m old : List ℕ) (hb : b < 3) (hs : s < 65536) (c : Cel
         front-long : length (headOf b s ++ rows) ≡ 4 + 16 * r
         front-long = length-append (headOf b s) rows ∙ omega (arith, rows-long)
 
-        pub two-long : length two ≡ 512
+        two-long : length two ≡ 512
         two-long = ap length two-is ∙ length-append (headOf b s ++ rows) (drop (4 + 16 * r) old) ∙ omega (arith, front-long, few, length-drop (4 + 16 * r) old)
 
         abbrev last : List ℕ

@@ -582,14 +582,6 @@ fn asked_by(digit: usize, seed: u64, area: u64) -> Asked
     }
 }
 
-fn load_number(own: bool, degree: u64, by: Asked, message: &[u8], cells: &mut [u8]) -> u64 {
-    if own {
-        second::loads::load(degree, by.seed, by.wrong, by.unsure, message, cells)
-    } else {
-        load::entry::load(degree, by.seed, by.wrong, by.unsure, message, cells)
-    }
-}
-
 // A load by the second implementation or by the entry, of the first cells of one room into those of another.
 fn load_result(
     own: bool,
@@ -602,13 +594,13 @@ fn load_result(
     requires { ⌜ («message_long» ≤ 16385) × («cells_long» ≤ 16385) ⌝ }
 {
     let mut room = [7u8; 16385];
-    let refusal = load_number(
-        own,
-        degree,
-        by,
-        &message[..message_long],
-        &mut room[..cells_long],
-    );
+    let lent = &message[..message_long];
+    let cells = &mut room[..cells_long];
+    let refusal = if own {
+        second::loads::load(degree, by.seed, by.wrong, by.unsure, lent, cells)
+    } else {
+        load::entry::load(degree, by.seed, by.wrong, by.unsure, lent, cells)
+    };
     RoomResult {
         refusal: refusal,
         number: 0,

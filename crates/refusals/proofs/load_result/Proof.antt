@@ -14,4 +14,6 @@ load-result-spec =
     (λ c. search needs)
     (λ c. sym (length-take-le _ _ (search needs)))
     (λ c κs. tt)
+    (λ c κs. tt)
+    (λ c. tt)
     (λ c. tt))
