@@ -6,9 +6,9 @@
  * which a recorder keeps a sheet.
  * The library is written in Rattle: the source of every function below is proved to return, to touch no memory but what it is
  * lent, and to give exactly what its contract says, for every input. The contract of a function stands at its source in
- * crates/pugdrel/src; the promise that it names is in crates/pugdrel/specs where the function has a report, else in the crate of the
- * entry: array, blocks or load. Not proved are the compiler's back end and this header, which repeats the types of the source by
- * hand; examples/c checks every call.
+ * crates/pugdrel/src; the promise that it names is in crates/pugdrel/specs, or, of pugdrel_encode, pugdrel_extract,
+ * pugdrel_write_blocks and pugdrel_load, in the crate of the entry: array, blocks or load. Not proved are the compiler's back end and
+ * this header, which repeats the types of the source by hand; examples/c checks every call.
  *
  * Build and link, from the root of the repository, on x86-64 Linux:
  *
@@ -29,8 +29,8 @@
  * drawn at random as in the published algorithm.
  *
  * Refusals. Each function but pugdrel_version returns 0, or the number of the first test that applies, in this order. None ever
- * aborts. A refused call changes nothing that it was lent, but for the report. A compiler that knows how warns where the number is not looked at;
- * pugdrel_refusal_text says it in words.
+ * aborts. A refused call changes nothing that it was lent, but for the report. A compiler that knows how warns where the number is
+ * not looked at; pugdrel_refusal_text says it in words.
  *
  * Reports. Where a function has more to say than the number, it writes it to `report`, whose length is part of the contract as
  * that of any slice: another length is PUGDREL_BAD_LENGTH, and then the report is not written. A report of the right length is
@@ -167,8 +167,9 @@ uint64_t pugdrel_row(uint64_t degree, const uint8_t *cells, size_t cells_len, si
  * and the seed choose. The same call gives the same array everywhere.
  * message: k * k bits, read only. cells: n * n, written only; what they held is not tested.
  *
- * Draws. They have no call of their own. There are two numbers of 64 bits, s, which starts as the seed, and w, which starts as 0. A draw does s ^= s << 13,
- * s ^= s >> 7 and s ^= s << 17, then adds hexadecimal 9E3779B97F4A7C15 to w, and is s plus w; both sums wrap.
+ * Draws. They have no call of their own. There are two numbers of 64 bits, s, which starts as the seed, and w, which starts as 0.
+ * A draw does s ^= s << 13, s ^= s >> 7 and s ^= s << 17, then adds hexadecimal 9E3779B97F4A7C15 to w, and is s plus w; both sums
+ * wrap.
  * Places. The places 0 to n * n - 1 are shuffled from the last one down to place 1: place i changes with the place numbered by
  * the next draw modulo i + 1. The first `wrong` places in the shuffled order are inverted, the next `unsure` made unsure. Each
  * place is there a single time, so that exactly so many cells are hit.

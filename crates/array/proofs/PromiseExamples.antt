@@ -20,10 +20,15 @@ blank n = replicate n 0
 abbrev EncodeTells : (message : List ℕ) → ℕ → Type 0
 EncodeTells message n = (after : List ℕ) (no : ℕ) → Encoded 4 message (replicate 256 7) after no → (no ≡ n) × (after ≡ replicate 256 7)
 
+-- ones are taken
+pub encode-taken : (after : List ℕ) (no : ℕ) → Encoded 4 (replicate 49 1) (replicate 256 7) after no → no ≡ 0
+unfolding codingTests atMost
+encode-taken after n h = h .refusal
+
 -- a 2 in the message; a cell too many, alone and with a 2
 pub encode-refused : EncodeTells (set (blank 49) 48 2) 4 × EncodeTells (blank 50) 3 × EncodeTells (set (blank 50) 0 2) 3
 unfolding given codingTests atMost
-encode-refused = (λ after no h. (h .refusal, h .cells), λ after no h. (h .refusal, h .cells), λ after no h. (h .refusal, h .cells))
+encode-refused = (λ after n h. (h .refusal, h .cells), λ after n h. (h .refusal, h .cells), λ after n h. (h .refusal, h .cells))
 
 -- ---- extract: the refusal and the message
 
@@ -37,7 +42,7 @@ pub extract-numbers :
     × ExtractTells (set (blank 256) 0 3) 4 (replicate 49 7)
     × ExtractTells (set (blank 255) 0 3) 3 (replicate 49 7)
 unfolding given codingTests atMost extracted lines
-extract-numbers = (λ after no h. (h .refusal, h .message), λ after no h. (h .refusal, h .message), λ after no h. (h .refusal, h .message))
+extract-numbers = (λ after n h. (h .refusal, h .message), λ after n h. (h .refusal, h .message), λ after n h. (h .refusal, h .message))
 
 -- ---- the look-up of a row: row 3, row 16, and row 3 where a cell is 3
 

@@ -1,10 +1,10 @@
--- Small sheets of degree 4, decoded by one iteration with filling words of 0: which cells are left, and the count. They say what decode
+-- Small sheets of degree 4, decoded by an iteration or two: which cells are left, and the count. They say what decode
 -- promises in numbers, so that rows and columns, or two of its numbers, can't change places in the definition and in the code alike.
 -- Assumes nothing.
 use mathlib.Core.Path.{_≡_, refl, sym, _∙_}
 use mathlib.Core.Bool.{Bool, true, false}
 use mathlib.Core.List.{List, [], _∷_, _++_}
-use Prim.Native.Nat.{ℕ, _+_, _*_, _<_}
+use Prim.Native.Nat.{ℕ, _+_, _*_, _^_, _<_}
 use native.Mathlib.Nat.{add-zero}
 use native.Mathlib.Omega.{arith}
 use borrow.Author.Tests.{ltb-true}
@@ -21,30 +21,31 @@ use Rattle.line.specs.Decoding.{listTo, decode, message, messages}
 use Rattle.line.specs.Clauses.{reach, same, agrees, byReach, clause, count}
 use Rattle.line.specs.Refusals.{refusal, given, some, atMost}
 use Rattle.line.proofs.Distances.{is-codeword}
-use Rattle.line.proofs.Examples.{P7, P7-messages}
+use Rattle.line.proofs.CodeExamples.{four, four-zeros, four-ones}
+use Rattle.line.proofs.Examples.{zeros, G, P7, P7-messages, P8-messages}
 use Rattle.line.proofs.Refusing.{at-most-small, given-taken}
 use Rattle.array.specs.declared.entry.DecodeAnswer.{DecodeAnswer}
-use Rattle.array.specs.Arrays.{line, lines, transpose}
+use Rattle.array.specs.Arrays.{line, lines, transpose, column}
 use Rattle.array.specs.Halves.{rowHalf, columnHalf, rowCount, columnCount}
 use Rattle.array.specs.Plain.{fillings, plain, plainCount, closed, RowCondition}
 use Rattle.array.specs.Encoding.{ProductCodeword}
 use Rattle.array.specs.Refusals.{decodeTests}
 use Rattle.array.specs.Entries.{decodeNumbers, DecodeDone}
 use Rattle.array.specs.working.Steps.{IsArray}
-use Rattle.array.proofs.ArrayLaws.{line-cells, line-lines, lines-are}
+use Rattle.array.proofs.ArrayLaws.{line-cells, length-lines, line-lines, lines-are, transpose-cells}
 use Rattle.array.proofs.Fillings.{fillings-zeros}
-use Rattle.array.proofs.FillingOrder.{one-iteration}
-use Rattle.array.proofs.Theorem.{sent-known, sent-closed, column-kept, first-half}
+use Rattle.array.proofs.FillingOrder.{one-iteration, count-add}
+use Rattle.array.proofs.Theorem.{sent-known, sent-closed, row-kept, column-kept, plain-kept, first-half}
 
 -- the filling words of an iteration, all 0
 abbrev pub zeroWords : List ℕ
 zeroWords = replicate 32 0
 
 -- the count of an iteration, from those of its halves
-counted : {m : List ℕ} (r : List ℕ) (a b : ℕ) → rowHalf Four r r zeroWords ≡ m → rowCount Four r r zeroWords ≡ a → columnCount Four m r (drop 16 zeroWords) ≡ b
-    → plainCount Four 1 r r zeroWords ≡ a + b
+counted : {m : List ℕ} (r w : List ℕ) (a b : ℕ) → rowHalf Four r r w ≡ m → rowCount Four r r w ≡ a → columnCount Four m r (drop 16 w) ≡ b
+    → plainCount Four 1 r r w ≡ a + b
 unfolding plainCount
-counted r a b e p q = rw (e, p, q) (add-zero (a + b))
+counted r w a b e p q = rw (e, p, q) (add-zero (a + b))
 
 -- ---- the sheet of zeros, which has a codeword in each row and column
 
@@ -66,6 +67,20 @@ zero-rows i h = is-codeword Four (line-cells 16 16 i zero-word h) .0 (every-each
 pub zero-sent : ProductCodeword Four zeroSheet
 zero-sent = record { whole = refl; rows = zero-rows; columns = λ j h. rw zero-turned (zero-rows j h) }
 
+-- received as it is it stays so, with 2 decodings a line in every half: twice as many in two iterations as in one
+zero-array : IsArray Four zeroSheet
+unfolding atMost
+zero-array = record { long = refl; small = at-most-small 2 zeroSheet refl }
+
+zero-once : (w : List ℕ) → plainCount Four 1 zeroSheet zeroSheet w ≡ 64
+unfolding rowCount columnCount sumTo count clause erasures transpose listTo
+zero-once w = counted zeroSheet w 32 32 (row-kept Four zeroSheet zero-sent zeroSheet zero-array w) refl refl
+
+pub zero-twice : (w : List ℕ) → plainCount Four 2 zeroSheet zeroSheet w ≡ 128
+zero-twice w =
+    count-add Four zeroSheet 1 1 zeroSheet w
+    ∙ rw (plain-kept Four zeroSheet zero-sent zeroSheet zero-array 1 w, zero-once w, zero-once (drop 32 w)) refl
+
 -- ---- 16 rows that are document 01's P7, ones at 0 and 4 and unsure cells 6 and 7: a tie, which filling bits of 0 decide for zeros and
 -- filling bits of 1 for G (P8)
 
@@ -76,14 +91,19 @@ pub tied-array : IsArray Four tiedRows
 unfolding atMost lines
 tied-array = record { long = refl; small = at-most-small 2 tiedRows refl }
 
-tied-rows : rowHalf Four tiedRows tiedRows zeroWords ≡ zeroSheet
-unfolding rowHalf lines
-tied-rows = lines-are 16 _ 16 zeroSheet refl row
+-- a half by rows, where each row has the same filling word
+tied-half : (f : ℕ) (c : List ℕ) → messages (bounded Four) P7 P7 f ≡ c → length c ≡ 16 → rowHalf Four tiedRows tiedRows (replicate 32 f) ≡ lines (λ i. c) 16
+unfolding rowHalf
+tied-half f c e l = lines-are 16 _ 16 (lines (λ i. c) 16) (length-lines 16 (λ i. c) 16 (λ i q. l)) row
   where
-    row : (i : ℕ) → i < 16 → messages (bounded Four) (line 16 tiedRows i) (line 16 tiedRows i) (getD zeroWords i 0) ≡ line 16 zeroSheet i
+    row : (i : ℕ) → i < 16 → messages (bounded Four) (line 16 tiedRows i) (line 16 tiedRows i) (getD (replicate 32 f) i 0) ≡ line 16 (lines (λ i. c) 16) i
     row i h =
-        rw (line-lines 16 (λ i. P7) 16 i (λ i q. refl) h, getD-replicate {A = ℕ} 32 i 0 0 (omega arith), P7-messages)
-        (sym (line-lines 16 (λ i. replicate 16 0) 16 i (λ i q. refl) h))
+        rw (line-lines 16 (λ i. P7) 16 i (λ i q. refl) h, getD-replicate {A = ℕ} 32 i f 0 (omega arith), e)
+        (sym (line-lines 16 (λ i. c) 16 i (λ i q. l) h))
+
+tied-rows : rowHalf Four tiedRows tiedRows zeroWords ≡ zeroSheet
+unfolding lines
+tied-rows = tied-half 0 zeros P7-messages refl
 
 pub tied-left : plain Four 1 tiedRows tiedRows zeroWords ≡ zeroSheet
 tied-left =
@@ -92,7 +112,39 @@ tied-left =
 
 pub tied-count : plainCount Four 1 tiedRows tiedRows zeroWords ≡ 64
 unfolding rowCount columnCount sumTo count clause byReach reach same agrees filled erasures distance bounded within2 itself isCodeword sumOver onesIn transpose listTo lines
-tied-count = counted tiedRows 32 32 tied-rows refl refl
+tied-count = counted tiedRows zeroWords 32 32 tied-rows refl refl
+
+-- the same with ones at bits 6 and 7 of every filling word: 16 rows of G, each column of which is all 0 or all 1, a codeword
+
+abbrev oneWords : List ℕ
+oneWords = replicate 32 (2 ^ 6 + 2 ^ 7)
+
+abbrev pub rowsOfG : List ℕ
+rowsOfG = lines (λ i. G) 16
+
+G-word : IsWord 256 rowsOfG
+unfolding atMost lines
+G-word = record { long = refl; small = at-most-small 1 rowsOfG refl }
+
+G-rows : (i : ℕ) → i < 16 → Codeword Four (line 16 rowsOfG i)
+unfolding lines
+G-rows i h = is-codeword Four (line-cells 16 16 i G-word h) .0 (every-each (λ i. isCodeword Four (line 16 rowsOfG i)) 16 (rw four refl) i h)
+
+G-columns : (j : ℕ) → j < 16 → Codeword Four (column 16 rowsOfG j)
+unfolding lines transpose listTo
+G-columns j h =
+    is-codeword Four (line-cells 16 16 j (transpose-cells 16 16 G-word) h) .0 (every-each (λ j. isCodeword Four (column 16 rowsOfG j)) 16 (rw (four-zeros, four-ones) refl) j h)
+
+G-sent : ProductCodeword Four rowsOfG
+G-sent = record { whole = G-word .long; rows = G-rows; columns = G-columns }
+
+tied-ones : rowHalf Four tiedRows tiedRows oneWords ≡ rowsOfG
+tied-ones = tied-half (2 ^ 6 + 2 ^ 7) G P8-messages refl
+
+pub ones-left : plain Four 1 tiedRows tiedRows oneWords ≡ rowsOfG
+ones-left =
+    one-iteration Four tiedRows tiedRows oneWords
+    ∙ rw tied-ones (column-kept Four rowsOfG G-sent tiedRows tied-array (drop 16 oneWords))
 
 -- ---- a row of 16 unsure cells above rows of zeros: 30 decodings in the row half, where row 0 fails, and 32 in the column half, where
 -- each column has one unsure cell
@@ -133,7 +185,7 @@ crowded-left = one-iteration Four crowdedRow crowdedRow zeroWords ∙ rw crowded
 
 pub crowded-count : plainCount Four 1 crowdedRow crowdedRow zeroWords ≡ 62
 unfolding rowCount columnCount sumTo count clause erasures transpose listTo
-crowded-count = counted crowdedRow 30 32 crowded-rows refl refl
+crowded-count = counted crowdedRow zeroWords 30 32 crowded-rows refl refl
 
 -- ---- no cell known: nothing is decoded
 
@@ -157,7 +209,7 @@ unsure-left = one-iteration Four allUnsure allUnsure zeroWords ∙ rw (unsure-ro
 
 pub unsure-count : plainCount Four 1 allUnsure allUnsure zeroWords ≡ 0
 unfolding rowCount columnCount sumTo count clause erasures transpose listTo
-unsure-count = counted allUnsure 0 0 (unsure-rows zeroWords) refl refl
+unsure-count = counted allUnsure zeroWords 0 0 (unsure-rows zeroWords) refl refl
 
 -- ---- what decode promises of them: refusal, count, unsure cells and closed, and the cells
 
@@ -165,44 +217,55 @@ numbers-are : (p : ℕ × ℕ × ℕ × Bool) {a b c : ℕ} {e : Bool} → p .0 
 numbers-are p h i j k = rw (← h, ← i, ← j, ← k) refl
 
 -- of a taken call, from what the plain decoding leaves and counts
-module _ (r m : List ℕ) (n : ℕ) (left : plain Four 1 r r zeroWords ≡ m) (counted : plainCount Four 1 r r zeroWords ≡ n) where
-  pub promised : {before after : List ℕ} {more : List Bool} {a : DecodeAnswer} → refusal (decodeTests 4 1 r (replicate 64 0) before more) ≡ 0
-      → DecodeDone 4 1 r (replicate 64 0) before more after a → (decodeNumbers a ≡ (0, n, erasures m, closed Four m)) × (after ≡ m)
+module _ (l : ℕ) (r lent w m : List ℕ) (n : ℕ) (words : fillings lent ≡ w) (left : plain Four l r r w ≡ m) (count : plainCount Four l r r w ≡ n) where
+  promised : {before after : List ℕ} {more : List Bool} {a : DecodeAnswer} → refusal (decodeTests 4 l r lent before more) ≡ 0
+      → DecodeDone 4 l r lent before more after a → (decodeNumbers a ≡ (0, n, erasures m, closed Four m)) × (after ≡ m)
   promised {before} {after} {more} {a} taken h = (numbers-are (decodeNumbers a) no sum unsure shut, cells)
     where
-      words : fillings (replicate 64 0) ≡ zeroWords
-      words = fillings-zeros 32
-
       no : decodeNumbers a .0 ≡ 0
       no = h .refusal ∙ taken
 
       sum : decodeNumbers a .1 ≡ n
-      sum = h .count ∙ given-taken (decodeTests 4 1 r (replicate 64 0) before more) 4 _ 0 (taken, refl) ∙ rw words counted
+      sum = h .count ∙ given-taken (decodeTests 4 l r lent before more) 4 _ 0 (taken, refl) ∙ rw words count
 
       unsure : decodeNumbers a .2 ≡ erasures m
-      unsure = h .erasures ∙ given-taken (decodeTests 4 1 r (replicate 64 0) before more) 4 _ 0 (taken, refl) ∙ rw (words, left) refl
+      unsure = h .erasures ∙ given-taken (decodeTests 4 l r lent before more) 4 _ 0 (taken, refl) ∙ rw (words, left) refl
 
       shut : decodeNumbers a .3 ≡ closed Four m
-      shut = h .closed ∙ given-taken (decodeTests 4 1 r (replicate 64 0) before more) 4 _ false (taken, refl) ∙ rw (words, left) refl
+      shut = h .closed ∙ given-taken (decodeTests 4 l r lent before more) 4 _ false (taken, refl) ∙ rw (words, left) refl
 
       cells : after ≡ m
-      cells = h .cells ∙ given-taken (decodeTests 4 1 r (replicate 64 0) before more) 4 _ before (taken, refl) ∙ rw (words, left) refl
+      cells = h .cells ∙ given-taken (decodeTests 4 l r lent before more) 4 _ before (taken, refl) ∙ rw (words, left) refl
+
+-- one that leaves a sheet that has a codeword in each row and column
+promised-closed : (l : ℕ) (r lent w m : List ℕ) (n : ℕ) → fillings lent ≡ w → plain Four l r r w ≡ m → plainCount Four l r r w ≡ n → ProductCodeword Four m
+    → {before after : List ℕ} {more : List Bool} {a : DecodeAnswer} → refusal (decodeTests 4 l r lent before more) ≡ 0
+    → DecodeDone 4 l r lent before more after a → (decodeNumbers a ≡ (0, n, 0, true)) × (after ≡ m)
+promised-closed l r lent w m n words left count S taken h = rw (sent-known Four m S, sent-closed Four m S) at (promised l r lent w m n words left count taken h)
 
 -- cells to write of the right length, and no further slice of a wrong one
 module _ {before after : List ℕ} {more : List Bool} {a : DecodeAnswer} (long : length before ≡ 256) (fit : some more ≡ false) where
   pub tied-promised : DecodeDone 4 1 tiedRows (replicate 64 0) before more after a → (decodeNumbers a ≡ (0, 64, 0, true)) × (after ≡ zeroSheet)
   unfolding decodeTests atMost lines
-  tied-promised h =
-      rw (sent-known Four zeroSheet zero-sent, sent-closed Four zeroSheet zero-sent) at (promised tiedRows zeroSheet 64 tied-left tied-count (rw (long, fit) refl) h)
+  tied-promised h = promised-closed 1 tiedRows (replicate 64 0) zeroWords zeroSheet 64 (fillings-zeros 32) tied-left tied-count zero-sent (rw (long, fit) refl) h
+
+  pub ones-promised : DecodeDone 4 1 tiedRows (lines (λ i. (2 ^ 6 + 2 ^ 7) ∷ 0 ∷ []) 32) before more after a → after ≡ rowsOfG
+  unfolding decodeTests atMost lines fillings
+  ones-promised h =
+      h .cells ∙ given-taken (decodeTests 4 1 tiedRows (lines (λ i. (2 ^ 6 + 2 ^ 7) ∷ 0 ∷ []) 32) before more) 4 _ before (rw (long, fit) refl, refl) ∙ ones-left
+
+  pub twice-promised : DecodeDone 4 2 zeroSheet (replicate 128 0) before more after a → (decodeNumbers a ≡ (0, 128, 0, true)) × (after ≡ zeroSheet)
+  unfolding decodeTests atMost
+  twice-promised h =
+      promised-closed 2 zeroSheet (replicate 128 0) (replicate 64 0) zeroSheet 128 (fillings-zeros 64) (plain-kept Four zeroSheet zero-sent zeroSheet zero-array 2 (replicate 64 0)) (zero-twice (replicate 64 0)) zero-sent (rw (long, fit) refl) h
 
   pub crowded-promised : DecodeDone 4 1 crowdedRow (replicate 64 0) before more after a → (decodeNumbers a ≡ (0, 62, 0, true)) × (after ≡ zeroSheet)
   unfolding decodeTests atMost
-  crowded-promised h =
-      rw (sent-known Four zeroSheet zero-sent, sent-closed Four zeroSheet zero-sent) at (promised crowdedRow zeroSheet 62 crowded-left crowded-count (rw (long, fit) refl) h)
+  crowded-promised h = promised-closed 1 crowdedRow (replicate 64 0) zeroWords zeroSheet 62 (fillings-zeros 32) crowded-left crowded-count zero-sent (rw (long, fit) refl) h
 
   pub unsure-promised : DecodeDone 4 1 allUnsure (replicate 64 0) before more after a → (decodeNumbers a ≡ (0, 0, 256, false)) × (after ≡ allUnsure)
   unfolding decodeTests atMost closed erasures
-  unsure-promised h = promised allUnsure allUnsure 0 unsure-left unsure-count (rw (long, fit) refl) h
+  unsure-promised h = promised 1 allUnsure (replicate 64 0) zeroWords allUnsure 0 (fillings-zeros 32) unsure-left unsure-count (rw (long, fit) refl) h
 
 -- ---- a refused call: its number, zeros and no, and the cells as they were
 

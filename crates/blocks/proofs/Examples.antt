@@ -11,7 +11,7 @@ use Rattle.line.specs.Cells.{cell}
 use Rattle.line.specs.Refusals.{refusal, atMost}
 use Rattle.array.specs.Arrays.{lines}
 use Rattle.blocks.specs.declared.entry.ReadAnswer.{ReadAnswer}
-use Rattle.blocks.specs.Blocks.{packed, content, fletcher, blockOf, isFile, formed, summed, sound, unpacked, sheetIn}
+use Rattle.blocks.specs.Blocks.{packed, content, fletcher, blockOf, fileOf, isFile, formed, summed, sound, unpacked, sheetIn}
 use Rattle.blocks.specs.Entries.{readTests, writeTests, readNumbers, ReadDone, WriteDone}
 
 -- ---- sums of texts that are commonly used to test Fletcher's: "abcde" has 240 and 200, "abcdefgh" 39 and 6. No sum is 255.
@@ -116,19 +116,25 @@ table = refl
 abbrev ReadTells : (f : List ℕ) → ℕ × ℕ → List ℕ → Type 0
 ReadTells f n left = (after : List ℕ) (a : ReadAnswer) → ReadDone f (replicate 4096 7) [] after a → (readNumbers a ≡ n) × (after ≡ left)
 
--- a sheet of zeros with the number 4660, which is 18 and 52; a cell of 3; no byte
+-- the file of a sheet of zeros with the number 4660, which is 18 and 52
+abbrev blankFile : List ℕ
+blankFile = faulty 0 4660 0 0 76 57 ++ (faulty 1 4660 0 1 77 57 ++ faulty 2 4660 0 2 78 57)
+
+-- that file; a cell of 3; no byte
 pub read-numbers :
-    ReadTells (faulty 0 4660 0 0 76 57 ++ (faulty 1 4660 0 1 77 57 ++ faulty 2 4660 0 2 78 57)) (0, 4660) blank
+    ReadTells blankFile (0, 4660) blank
     × ReadTells (faulty 0 0 4 3 9 237 ++ (second ++ third)) (7, 0) (replicate 4096 7)
     × ReadTells [] (5, 0) (replicate 4096 7)
 unfolding readTests isFile formed summed sound fletcher unpacked atMost sheetIn lines
-read-numbers = (λ after no h. (rw (← h .refusal, ← h .number) refl, h .cells), λ after no h. (rw (← h .refusal, ← h .number) refl, h .cells), λ after no h. (rw (← h .refusal, ← h .number) refl, h .cells))
+read-numbers = (λ after a h. (rw (← h .refusal, ← h .number) refl, h .cells), λ after a h. (rw (← h .refusal, ← h .number) refl, h .cells), λ after a h. (rw (← h .refusal, ← h .number) refl, h .cells))
 
-abbrev WriteTells : (cells : List ℕ) → ℕ → Type 0
-WriteTells cells n =
-    (after : List ℕ) (no : ℕ) → WriteDone 249 cells (replicate 1536 7) after no → (no ≡ n) × (after ≡ replicate 1536 7)
+abbrev WriteTells : (cells : List ℕ) → ℕ → (left : List ℕ) → Type 0
+WriteTells cells n left = (after : List ℕ) (no : ℕ) → WriteDone 4660 cells (replicate 1536 7) after no → (no ≡ n) × (after ≡ left)
 
--- a cell of 3; a cell too few
-pub write-refused : WriteTells (set blank 4095 3) 4 × WriteTells (take 4095 blank) 3
-unfolding writeTests atMost
-write-refused = (λ after no h. (h .refusal, h .bytes), λ after no h. (h .refusal, h .bytes))
+-- that file; a cell of 3; a cell too few
+pub write-numbers :
+    WriteTells blank 0 blankFile
+    × WriteTells (set blank 4095 3) 4 (replicate 1536 7)
+    × WriteTells (take 4095 blank) 3 (replicate 1536 7)
+unfolding writeTests atMost fileOf blockOf content packed fletcher lines
+write-numbers = (λ after n h. (h .refusal, h .bytes), λ after n h. (h .refusal, h .bytes), λ after n h. (h .refusal, h .bytes))

@@ -34,6 +34,15 @@ pub four : isCodeword Four G ≡ true
 unfolding isCodeword onesIn sumOver double timesPower
 four = refl
 
+-- and the words of zeros and of ones
+pub four-zeros : isCodeword Four zeros ≡ true
+unfolding isCodeword onesIn sumOver
+four-zeros = refl
+
+pub four-ones : isCodeword Four (replicate 16 1) ≡ true
+unfolding isCodeword onesIn sumOver double timesPower
+four-ones = refl
+
 pub six-apart : distance zeros G ≡ designedDistance
 unfolding distance
 six-apart = refl

@@ -40,7 +40,7 @@ pub data Row : Type 0 where
   -- an incoming line, the one cell at which the channel differs and its value there, the messages and the count; filling zero
   Sends : List ℕ → ℕ → ℕ → List ℕ → ℕ → Row
 
-abbrev P3 : List ℕ
+abbrev pub P3 : List ℕ
 P3 = line (0 ∷ 4 ∷ 6 ∷ []) []
 
 abbrev pub P4 : List ℕ

@@ -4,9 +4,13 @@ use mathlib.Core.Path.{_≡_, refl}
 use mathlib.Core.Bool.{Bool}
 use mathlib.Core.List.{List, [], _∷_, map}
 use Prim.Native.Nat.{ℕ, zero, suc, _-_, _^_}
+use native.Mathlib.Omega.{arith}
 use lib.ListN.{replicate, set}
+use Rattle.degree.specs.declared.Degree.the-variants.{Four}
+use Rattle.line.specs.Cells.{cell, distance, erasures}
 use Rattle.line.specs.Decoding.{listTo}
 use Rattle.line.specs.Refusals.{refusal, given, atMost}
+use Rattle.array.specs.Encoding.{encodeArray}
 use Rattle.array.specs.Refusals.{codingTests}
 use Rattle.load.specs.Load.{start, stirred, grown, next, drawn, exchanged, shuffled, order, changed, damaged}
 use Rattle.load.specs.Entries.{loadTests, Loaded}
@@ -92,18 +96,38 @@ pub table : map refusal calls ≡ 0 ∷ 0 ∷ 0 ∷ 0 ∷ 0 ∷ 1 ∷ 3 ∷ 3 �
 unfolding loadTests codingTests atMost
 table = refl
 
--- ---- what the load promises of refused calls: the number, and the cells as they were
+-- ---- what the load promises, of calls of degree 4 with a message of zeros
 
-abbrev LoadTells : (seed wrong unsure : ℕ) (message : List ℕ) → ℕ → Type 0
-LoadTells seed wrong unsure message n =
-    (after : List ℕ) (no : ℕ) → Loaded 4 seed wrong unsure message (replicate 256 7) after no → (no ≡ n) × (after ≡ replicate 256 7)
+-- what stood in the cells before
+abbrev old : List ℕ
+old = replicate 256 7
 
+-- 3 cells wrong, 5 unsure
+pub load-taken : (after : List ℕ) (n : ℕ) → Loaded 4 7 3 5 (blank 49) old after n
+    → (n ≡ 0) × (distance after (encodeArray Four (blank 49)) ≡ 3) × (erasures after ≡ 5)
+unfolding loadTests codingTests atMost
+load-taken after n h = let hit = h .hit Four (h .refusal) refl in (h .refusal, hit .all-wrong, hit .all-unsure)
+
+-- of 256 places seed 7 has 187 first
+first-place : cell (order 256 7) 0 ≡ 187
+unfolding order listTo shuffled exchanged drawn stirred grown
+first-place = refl
+
+-- so an unsure cell, and no wrong one, is there
+pub load-placed : (after : List ℕ) (n : ℕ) → Loaded 4 7 0 1 (blank 49) old after n → cell after 187 ≡ 2
+unfolding loadTests codingTests atMost
+load-placed after n h = rw first-place at (h .hit Four (h .refusal) refl .erased 0 (omega arith) (omega arith))
+
+abbrev Refuses : (seed wrong unsure : ℕ) (message : List ℕ) → ℕ → Type 0
+Refuses seed wrong unsure message n = (after : List ℕ) (no : ℕ) → Loaded 4 seed wrong unsure message old after no → (no ≡ n) × (after ≡ old)
+
+-- a message cell too few; a 2 in the message; seed 0; seed 0 and a cell too many; a cell too many
 pub load-refused :
-    LoadTells 1 3 5 (blank 48) 3
-    × LoadTells 1 3 5 (set (blank 49) 0 2) 4
-    × LoadTells 0 3 5 (blank 49) 8
-    × LoadTells 0 200 57 (blank 49) 8
-    × LoadTells 1 200 57 (blank 49) 9
+    Refuses 1 3 5 (blank 48) 3
+    × Refuses 1 3 5 (set (blank 49) 0 2) 4
+    × Refuses 0 3 5 (blank 49) 8
+    × Refuses 0 200 57 (blank 49) 8
+    × Refuses 1 200 57 (blank 49) 9
 unfolding given loadTests codingTests atMost
 load-refused =
-    (λ after no h. (h .refusal, h .cells), λ after no h. (h .refusal, h .cells), λ after no h. (h .refusal, h .cells), λ after no h. (h .refusal, h .cells), λ after no h. (h .refusal, h .cells))
+    (λ after n h. (h .refusal, h .cells), λ after n h. (h .refusal, h .cells), λ after n h. (h .refusal, h .cells), λ after n h. (h .refusal, h .cells), λ after n h. (h .refusal, h .cells))

@@ -127,11 +127,11 @@ pub words : (after : List ℕ)
     × Tells (BoundedTold 4 zeros after (nines 1)) 3 (nines 1)
 unfolding lineTests
 words after = (
-  fitting refl (λ r done. rw (word-numbers .0 after r done) (refl, refl)),
-  fitting refl (λ r done. rw (word-numbers .1 after r done) (refl, refl)),
-  fitting refl (λ r done. rw (word-numbers .3 after r done) (refl, refl)),
-  fitting refl (λ r done. rw (word-numbers .5 after r done) (refl, refl)),
-  fitting refl (λ r done. rw (word-numbers .6 after r done) (refl, refl)),
+  fitting refl (λ r done. rw (word-numbers .0 after r done .0) (refl, refl)),
+  fitting refl (λ r done. rw (word-numbers .1 after r done .0) (refl, refl)),
+  fitting refl (λ r done. rw (word-numbers .3 after r done .0) (refl, refl)),
+  fitting refl (λ r done. rw (word-numbers .5 after r done .0) (refl, refl)),
+  fitting refl (λ r done. rw (word-numbers .6 after r done .0) (refl, refl)),
   unfitting (λ r done. (done .answer .refusal, λ e. omega arith)),
 )
 
@@ -144,9 +144,9 @@ pub lines : (after : List ℕ)
     × Tells (DecodeLineTold 4 0 (set zeros 9 3) after (nines 1)) 4 (0 ∷ [])
 unfolding lineTests
 lines after = (
-  fitting refl (λ r done. rw (line-numbers .1 after r done) (refl, refl)),
-  fitting refl (λ r done. rw (line-numbers .0 after r done) (refl, refl)),
-  fitting refl (λ r done. rw (line-numbers .3 after r done) (refl, refl)),
+  fitting refl (λ r done. rw (line-numbers .1 after r done .0) (refl, refl)),
+  fitting refl (λ r done. rw (line-numbers .0 after r done .0) (refl, refl)),
+  fitting refl (λ r done. rw (line-numbers .6 after r done .0) (refl, refl)),
 )
 
 -- ---- the messages of a line: the count
