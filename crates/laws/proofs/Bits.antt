@@ -1,6 +1,5 @@
 -- Words by their binary digits: what and, or, xor, complement and the count of ones do to the lowest digit and to digit k.
 -- Assumes nothing.
-use denote.Ref.{shr_at}
 use mathlib.Core.Path.{◌≡◌, refl, sym, ap, ◌∙◌}
 use mathlib.Core.Bool.{Bool, true, false, ◌&&◌, ◌||◌, not}
 use mathlib.Core.Logic.{◌⊎◌, inl, inr}
