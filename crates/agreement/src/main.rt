@@ -1,5 +1,7 @@
 // The proved entries compared with the second implementation of documents 01 and 02, which is the crate `second`, on many lines, arrays and
 // sheets made by chance. It prints totals: one disagreement changes them, and so does any change of a result.
+#![tactic(auto)]
+
 ghost use Rattle.std.specs.Prelude.{◌<◌, ◌≤◌};
 
 use array::entry::DecodeAnswer;
@@ -299,7 +301,7 @@ fn make_filling(n: usize, kind: usize, state: &mut u64, filling: &mut FillingNum
 }
 
 // What is told of a decoding, and the cells that it leaves.
-#[derive(Drop)]
+#[derive(Clone, Copy)]
 struct Outcome {
     count: u64,
     unsure: u64,
@@ -466,7 +468,7 @@ fn test_decoding(almost_closed: bool, n: usize, weights: &Weights, many: usize, 
     }
 }
 
-#[derive(Drop)]
+#[derive(Clone, Copy)]
 struct GivenArray {
     refusal: u64,
     cells: Cells,
@@ -640,7 +642,7 @@ fn test_seeds(seeds: u64, many: u64, tally: &mut Totals)
 }
 
 // How many cells of a sheet are inverted and how many unsure.
-#[derive(Drop)]
+#[derive(Clone, Copy)]
 struct Hits {
     wrong: u64,
     unsure: u64,

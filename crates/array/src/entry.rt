@@ -8,7 +8,7 @@ use crate::report::Report;
 use line::refusals::{Call, Refusal};
 use line::tables::{LINE_ENTRIES, put_line_tables};
 
-#[derive(Drop)]
+#[derive(Clone, Copy)]
 pub enum DecodeAnswer {
     Refused(Refusal),
     Decoded(Report),

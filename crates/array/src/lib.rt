@@ -1,4 +1,6 @@
 // Arrays of n by n cells: encoding, taking the message out, the look-up of a row, and decoding.
+#![tactic(auto)]
+
 pub mod encoding; // encode
 pub mod extraction; // extract
 pub mod rows; // the look-up of a row

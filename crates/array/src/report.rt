@@ -14,7 +14,7 @@ use line::packed::{count_erasures, ones_of};
 use line::tables::LineTables;
 
 // The count of decodings, the cells still unsure, and whether the array is closed.
-#[derive(Drop)]
+#[derive(Clone, Copy)]
 pub struct Report {
     pub count: u64,
     pub erasures: u64,

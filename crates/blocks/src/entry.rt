@@ -9,7 +9,7 @@ use degree::Degree;
 use line::refusals::{Call, Refusal, lent_test, number_of};
 use words::copying::copy_cells;
 
-#[derive(Drop)]
+#[derive(Clone, Copy)]
 pub enum ReadAnswer {
     Refused(Refusal),
     Read(u16), // the sheet number

@@ -12,7 +12,7 @@ use line::refusals::at_most;
 use words::bytes::put_four;
 
 // What is found in a block, or in all: the sheet number, and whether tests 5, 6 and 7 are passed.
-#[derive(Drop)]
+#[derive(Clone, Copy)]
 pub struct Found {
     pub number: u16,
     pub formed: bool,
@@ -20,7 +20,7 @@ pub struct Found {
     pub sound: bool,
 }
 
-#[derive(Drop)]
+#[derive(Clone, Copy)]
 struct Header {
     number: u16,
     formed: bool,
@@ -62,7 +62,7 @@ fn read_rows(sums: Sums, bytes: &[u8], cells: &mut [u8]) -> Sums
     so_far
 }
 
-#[derive(Drop)]
+#[derive(Clone, Copy)]
 struct Filler {
     sums: Sums,
     zero: bool,

@@ -1,9 +1,11 @@
 // The degree of the field, and the numbers that go with it. Nothing here knows of codes.
+#![tactic(auto)]
+
 ghost use Rattle.std.specs.Prelude.{◌≡◌};
 ghost use Rattle.degree.specs.Degree.{size, order, named};
 
 // The degree of the field. Below an entry there is no other.
-#[derive(Drop)]
+#[derive(Clone, Copy)]
 pub enum Degree {
     Four,
     Six,
@@ -11,7 +13,7 @@ pub enum Degree {
 }
 
 // The degree that a number names, if it names one.
-#[derive(Drop)]
+#[derive(Clone, Copy)]
 pub enum Named {
     Known(Degree),
     Unknown,

@@ -15,7 +15,7 @@ use degree::Degree;
 use words::word::{LentWord, lent_word};
 
 // Cells below n - 1 that are wrong.
-#[derive(Drop)]
+#[derive(Clone, Copy)]
 pub enum Positions {
     Zero,
     One(usize),

@@ -10,7 +10,7 @@ use words::word::Word;
 use words::word::sums::byte_sum;
 
 // The sum of α^i, the sum of α^(3i), and the parity.
-#[derive(Drop)]
+#[derive(Clone, Copy)]
 pub struct Syndrome {
     pub s1: u16,
     pub s3: u16,

@@ -16,7 +16,7 @@ use words::word::{Word, single, to_lend, xor_words};
 
 // What bounded-distance decoding of a word gave: was a codeword found, which, and how many cells were changed. Where none was found,
 // nothing is said of the other two.
-#[derive(Drop)]
+#[derive(Clone, Copy)]
 pub struct Tried {
     pub found: bool,
     pub word: Word,
@@ -24,7 +24,7 @@ pub struct Tried {
 }
 
 // The same, and the decodings counted so far.
-#[derive(Drop)]
+#[derive(Clone, Copy)]
 pub struct Tally {
     pub tried: Tried,
     pub count: u64,

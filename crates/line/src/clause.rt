@@ -16,7 +16,7 @@ use words::word::Word;
 
 // What settles the message at a cell: document 01's clauses in their order. A side says which filling's codeword is in reach
 // or, of an open cell, which filling is decoded once more.
-#[derive(Drop)]
+#[derive(Clone, Copy)]
 pub enum Clause {
     Equal, // "equal cells at k"
     Crowded, // "replaced line has 6 unsure cells"
@@ -30,7 +30,7 @@ pub enum Clause {
 }
 
 // One filling of a line, tried: the filled word, the channel line filled by the same bits, and what was found.
-#[derive(Drop)]
+#[derive(Clone, Copy)]
 pub struct Trial {
     pub before: Word,
     pub channel: Word,
@@ -38,7 +38,7 @@ pub struct Trial {
 }
 
 // What both fillings of a line gave, and the decodings counted.
-#[derive(Drop)]
+#[derive(Clone, Copy)]
 pub struct Both {
     pub one: Tried,
     pub two: Tried,
@@ -46,7 +46,7 @@ pub struct Both {
 }
 
 // What a filling says at one cell.
-#[derive(Drop)]
+#[derive(Clone, Copy)]
 pub struct Seen {
     pub reach: bool,
     pub same: bool,
@@ -55,7 +55,7 @@ pub struct Seen {
 }
 
 // What is known of a line before its cells are settled: the incoming line, the channel line, the filling, and what came of them.
-#[derive(Drop)]
+#[derive(Clone, Copy)]
 pub struct Base {
     pub incoming: Line,
     pub channel: Line,

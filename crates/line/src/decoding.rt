@@ -16,7 +16,7 @@ use degree::Degree;
 use words::word::{Word, same_word, zero_word};
 
 // A line, and the decodings counted so far.
-#[derive(Drop)]
+#[derive(Clone, Copy)]
 pub struct LineTally {
     pub line: Line,
     pub count: u64,

@@ -22,21 +22,21 @@ use degree::Degree;
 use words::word::{Word, of_numbers};
 
 // An answer to a full word: how many cells were changed, where a codeword was found.
-#[derive(Drop)]
+#[derive(Clone, Copy)]
 pub enum WordAnswer {
     Refused(Refusal),
     Failed,
     Found(u64),
 }
 
-#[derive(Drop)]
+#[derive(Clone, Copy)]
 pub enum LineAnswer {
     Refused(Refusal),
     Failed,
     Found,
 }
 
-#[derive(Drop)]
+#[derive(Clone, Copy)]
 pub enum MessagesAnswer {
     Refused(Refusal),
     Written(u64),

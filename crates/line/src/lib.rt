@@ -1,4 +1,6 @@
 // One line: packed in words, encoded, decoded within a distance and with erasures, and its outgoing messages.
+#![tactic(auto)]
+
 mod side; // which of the two filled words is meant
 pub mod packed; // a line packed in two words; no other module looks inside
 pub mod row; // a lent row beside its packed line

@@ -28,7 +28,7 @@ use words::word::{
 };
 
 // A message, and the decodings counted so far.
-#[derive(Drop)]
+#[derive(Clone, Copy)]
 pub struct Settled {
     pub cell: u64,
     pub count: u64,

@@ -16,7 +16,7 @@ use words::word::{
 };
 
 // Bit i of `ones` says that cell i is 1, bit i of `erased` that it is unsure.
-#[derive(Drop)]
+#[derive(Clone, Copy)]
 pub struct Line {
     pub ones: Word,
     pub erased: Word,

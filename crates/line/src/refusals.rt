@@ -9,7 +9,7 @@ use crate::packed::Line;
 use degree::{Degree, Named, degree_of};
 
 // Why a call is turned down: document 01's numbers 1 to 4, and those that document 02 adds.
-#[derive(Drop)]
+#[derive(Clone, Copy)]
 pub enum Refusal {
     BadDegree,
     BadIterations,
@@ -23,7 +23,7 @@ pub enum Refusal {
 }
 
 // A call that was tested.
-#[derive(Drop)]
+#[derive(Clone, Copy)]
 pub enum Call {
     Taken(Degree),
     Refused(Refusal),

@@ -4,7 +4,7 @@ ghost use Rattle.load.specs.Load.{stirred, grown, drawn};
 
 use std::num::wrapping_add_u64;
 
-#[derive(Drop)]
+#[derive(Clone, Copy)]
 pub struct State {
     pub s: u64,
     pub w: u64,

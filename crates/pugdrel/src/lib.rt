@@ -1,5 +1,7 @@
 // The entries for callers in C and Rust, as a static library: plain numbers and lent slices, and nothing asked of either.
 // include/pugdrel.h declares them for C.
+#![tactic(auto)]
+
 pub mod reports; // the report that a call writes its numbers to
 pub mod arrays; // decode, encode, extract, the look-up of a row
 pub mod lines; // one word or line

@@ -1,5 +1,7 @@
 // Calls that are to be turned down, and some that are not: each test of each entry failing alone and together with later ones, which gives
 // the lower number. A refused call leaves every lent cell as it was. It prints totals: one disagreement changes them.
+#![tactic(auto)]
+
 ghost use Rattle.std.specs.Prelude.{◌+◌, ◌≤◌, ◌<◌};
 
 use array::entry::DecodeAnswer;
@@ -233,7 +235,7 @@ fn same_rooms(one: &Room, other: &Room) -> bool {
 }
 
 // What is seen of a call: its refusal number, and whether every cell of the rooms that its slices lie in is as before.
-#[derive(Drop)]
+#[derive(Clone, Copy)]
 struct CallResult {
     number: u64,
     kept: bool,
@@ -381,7 +383,7 @@ fn length_by(digit: usize, right: usize) -> usize
 }
 
 // What is seen of a call: its refusal number, the sheet number that it tells, and all of the room that the slice to be written lies in.
-#[derive(Drop)]
+#[derive(Clone, Copy)]
 struct RoomResult {
     refusal: u64,
     number: u64,
@@ -532,7 +534,7 @@ fn test_zero_sum(number: u64, at: usize, tally: &mut Totals)
 const LOAD: usize = 9;
 
 // What a load is asked for: a seed, and how many cells it is to invert and to make unsure.
-#[derive(Drop)]
+#[derive(Clone, Copy)]
 struct Asked {
     seed: u64,
     wrong: u64,

@@ -145,7 +145,7 @@ fn unsure_in(n: usize, cells: &Cells) -> u64
 }
 
 // How many rows and how many columns are no codewords, and how many cells are unsure.
-#[derive(Drop)]
+#[derive(Clone, Copy)]
 pub struct Faults {
     pub rows: u64,
     pub columns: u64,

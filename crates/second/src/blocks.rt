@@ -93,7 +93,7 @@ fn put_bytes(number: u64, cells: &[u8], file: &mut [u8])
 
 // ---- the sums of a block
 
-#[derive(Drop)]
+#[derive(Clone, Copy)]
 struct Sums {
     a: u64,
     b: u64,
@@ -293,7 +293,7 @@ fn put_cells(file: &[u8], cells: &mut [u8])
 }
 
 // What a call that reads tells: the refusal number, and the sheet number, which is 0 where it is refused.
-#[derive(Drop)]
+#[derive(Clone, Copy)]
 pub struct Reading {
     pub refusal: u64,
     pub number: u64,

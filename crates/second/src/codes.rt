@@ -17,7 +17,7 @@ pub fn cells_of(degree: u64) -> usize
 
 // The degree; the polynomial whose root α makes the field, bit i the coefficient of α^i; and the generator polynomial, bit i the
 // coefficient of x^i, as the tables of BCH codes have it.
-#[derive(Drop)]
+#[derive(Clone, Copy)]
 pub struct Code {
     pub degree: u64,
     pub polynomial: usize,

@@ -99,7 +99,7 @@ fn flip(n: usize, cell: usize, word: Line) -> Line
 }
 
 // What decoding a word or a line leaves. Where nothing is found it is as it came.
-#[derive(Drop)]
+#[derive(Clone, Copy)]
 pub struct Attempt {
     pub found: bool,
     pub line: Line,

@@ -5,6 +5,8 @@
 //
 // A code is given by n and the weights of its cells. A line is an array of 128 cells, of which the first n count, and the others are 0; an
 // array of n by n cells is one of 16384, row after row.
+#![tactic(auto)]
+
 pub mod codes; // what is fixed for each degree
 pub mod codewords; // weights, check sums, bounded distance by trying flips
 pub mod lines; // line decoding, messages, clauses and their count

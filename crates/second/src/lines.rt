@@ -9,7 +9,7 @@ use crate::codewords::{Attempt, Line, Weights, bounded_distance};
 use crate::tallies::{CLAUSES, Totals, tick_if};
 
 // A filling word is two numbers, low word first: the bits of cells 0 to 63, and those of cells 64 to 127.
-#[derive(Drop)]
+#[derive(Clone, Copy)]
 pub struct FillingWord {
     pub low: u64,
     pub high: u64,
@@ -155,7 +155,7 @@ const AFRESH: usize = 7;
 const CHANNEL: usize = 8;
 
 // What the clauses ask of one filling at cell k.
-#[derive(Drop)]
+#[derive(Clone, Copy)]
 struct Filling {
     // The incoming line's filled word decoded to a codeword that is within 2 of the replaced line's filled word.
     in_reach: bool,
@@ -272,7 +272,7 @@ fn cost(clause: usize) -> u64
 }
 
 // The messages of a line, and its count.
-#[derive(Drop)]
+#[derive(Clone, Copy)]
 pub struct Outgoing {
     pub count: u64,
     pub line: Line,

@@ -1,12 +1,14 @@
 // The program `sheet`: reads standard input, has the crate `text` say what is printed for it, and prints that. An input longer
 // than the buffer is too long for an array of any degree, and so is the part of it that is read. A program has no exit status here,
 // so what could not be read or written is told on standard error.
+#![tactic(auto)]
+
 ghost use Rattle.std.specs.Prelude.{◌≡◌, ◌≤◌, length};
 
 use libc::{STDERR_FILENO, STDIN_FILENO, STDOUT_FILENO};
 
 // How many bytes were read, and did a read fail?
-#[derive(Drop)]
+#[derive(Clone, Copy)]
 struct Reading {
     got: usize,
     failed: bool,

@@ -14,7 +14,7 @@ pub fn put_byte(byte: u8, at: usize, output: &mut [u8]) -> usize
 }
 
 // Which way: characters that are read become cells, and cells become characters to print.
-#[derive(Drop)]
+#[derive(Clone, Copy)]
 pub enum Turn {
     ToCells,
     ToCharacters,

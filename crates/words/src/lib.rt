@@ -1,5 +1,7 @@
 // Bits and bytes in machine words: packed words, gathered from bytes and spread over them, kept in grids and transposed, summed; copies.
 // Nothing here knows of codes.
+#![tactic(auto)]
+
 pub mod word; // a packed word, with what is made of such words; no other module looks inside
 pub mod bytes; // four or eight bytes at a time, to a number and back
 pub mod copying; // one slice into another of its length

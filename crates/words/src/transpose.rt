@@ -2,7 +2,7 @@
 ghost use Rattle.std.specs.Prelude.{◌≡◌, ◌+◌, ◌*◌, ◌<◌, ◌≤◌, T, length};
 ghost use Rattle.words.specs.Working.Network.{upper, lower, masked, Swapped, Crossed, Turned};
 
-#[derive(Drop)]
+#[derive(Clone, Copy)]
 struct Pair {
     x: u64,
     y: u64,

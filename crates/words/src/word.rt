@@ -9,7 +9,7 @@ ghost use Rattle.std.specs.Int.Bits.{bit_and, bit_or, bit_xor};
 ghost use Rattle.std.specs.Int.Count.{ones, count_trailing_zeros};
 ghost use Rattle.words.specs.Working.Word.{value, lent_value, width};
 
-#[derive(Drop)]
+#[derive(Clone, Copy)]
 pub struct Word {
     low: u64,
     high: u64,

@@ -7,7 +7,7 @@ ghost use Rattle.words.specs.Working.Word.{value, width};
 use crate::bytes::{eight, gather, put_eight, spread};
 use crate::word::{Word, high_of, low_of, of_numbers};
 
-#[derive(Drop)]
+#[derive(Clone, Copy)]
 pub struct WordPair {
     pub first: Word,
     pub second: Word,
@@ -15,7 +15,7 @@ pub struct WordPair {
 
 // ---- at most 64 bytes, whose bits fit two numbers
 
-#[derive(Drop)]
+#[derive(Clone, Copy)]
 struct NumberPair {
     first: u64,
     second: u64,
