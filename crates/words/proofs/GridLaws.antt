@@ -9,7 +9,7 @@ use native.Mathlib.Nat.{zero-div}
 use native.Mathlib.Omega.{arith}
 use borrow.Rule.Slice.PartMut.{put_mid}
 use lib.ListN.{length, get_or, set, take, drop, length-set, length-drop, replicate, get_or-append, get_or-eq_default}
-use lib.Pow.{low, pow_mono, shr_lt}
+use lib.Pow.{pow_mono, shr_lt}
 use lib.Seq.{get_or-set_same, get_or-set_other, get_or-append-add, get_or-take, get_or-drop, length-take-le}
 use Rattle.laws.specs.Working.Bits.{bit_at}
 use Rattle.laws.proofs.Lists.{zeros_at}

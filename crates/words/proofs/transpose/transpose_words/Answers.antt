@@ -31,9 +31,4 @@ stage-requires-6 c = (c.stage-5.ensures.long, refl, tt)
 
 pub returns : goal.returns
 returns c =
-    let c₅ = c in
-    let c₄ = c₅.before.before.before.before in
-    let c₃ = c₄.before.before.before.before in
-    let c₂ = c₃.before.before.before.before in
-    let c₁ = c₂.before.before.before.before in
-    turned c₁.stage.ensures c₂.stage2.ensures c₃.stage3.ensures c₄.stage4.ensures c₅.stage5.ensures c.stage-6.ensures
+    turned c.stage.ensures c.stage-2.ensures c.stage-3.ensures c.stage-4.ensures c.stage-5.ensures c.stage-6.ensures

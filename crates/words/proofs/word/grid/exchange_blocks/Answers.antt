@@ -7,8 +7,7 @@ use Rattle.words.proofs.word.grid.exchange_blocks.Goals as goal
 
 pub loop-i-preserved : goal.loop-i-preserved
 loop-i-preserved c =
-    let l = c.loop-i in
-    (
+    let l = c.loop-i in (
       omega arith,
       simp length-set l.invariant.1,
       exchanged_next c.args.at l.i c.args.grid.now l.grid c.loop-i-test.true (omega arith) l.invariant.2,

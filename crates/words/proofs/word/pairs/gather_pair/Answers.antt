@@ -5,7 +5,7 @@ use Rattle.words.proofs.word.pairs.gather_pair.Goals as goal
 
 pub returns : goal.returns
 returns c =
-    let cut = c.cut_of.ensures in
+    let cut = c.cut_of-cut.ensures in
     let low = c.gather_part-low.ensures in
     let high = c.gather_part-high.ensures in (
       gathered_both _ _ cut.0 c.requires.1 cut.2 0 _ low.0 high.0 c.of_numbers.ensures,

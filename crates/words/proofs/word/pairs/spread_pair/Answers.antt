@@ -8,4 +8,4 @@ returns c =
     let cut = c.cut_of-cut.ensures in
     let one = c.spread_part in
     let two = c.spread_part-2 in
-    spread_both _ _ one.new.1.1.0 two.new.1.1.0 cut.0 c.requires cut.2 one.auto.1.1.0 _ _ cut.1 c.low_of.ensures c.low_of-2.ensures c.high_of.ensures c.high_of-2.ensures one.ensures two.ensures
+    spread_both _ _ one.new.bytes two.new.bytes cut.0 c.requires cut.2 one.auto.bytes _ _ cut.1 c.low_of.ensures c.low_of-2.ensures c.high_of.ensures c.high_of-2.ensures one.ensures two.ensures

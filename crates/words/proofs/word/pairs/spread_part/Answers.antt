@@ -18,10 +18,10 @@ loop-at-preserved c =
     let l = c.loop-at in
     let n = length c.args.bytes.now in
     let room : l.at + 8 ≤ length l.bytes = omega arith in
-    let e = put_pairs l.bytes p.new.0 l.at l.a l.b x y p.ensures in (
-      omega (arith, p.auto.0),
+    let e = put_pairs l.bytes p.new.bytes l.at l.a l.b x y p.ensures in (
+      omega (arith, p.auto.bytes),
       omega arith,
-      p.auto.0 ∙ l.invariant.2,
+      p.auto.bytes ∙ l.invariant.2,
       rw e (spread_turn l.bytes n l.at l.a l.b room l.invariant.2 ∙ l.invariant.3),
     )
 

@@ -12,9 +12,7 @@ loop-a-init c = (omega arith, c.zero_word-sum.ensures)
 
 pub loop-a-preserved : goal.loop-a-preserved
 loop-a-preserved c =
-    let unit = c in
-    let q = unit.before.before.before in
-    let l = q.loop in
-    let i = q.before.before.args.i in
+    let l = c.loop-a in
+    let i = c.args.i in
     let word = c.word_in-in-loop-a in
-    (omega arith, chosen_next _ _ i _ l.a l.invariant.1 unit.word_in.ensures c.bit_at-bit.ensures word.ensures c.xor_where-sum.ensures)
+    (omega arith, chosen_next _ _ i _ l.a l.invariant.1 c.word_in.ensures c.bit_at-bit.ensures word.ensures c.xor_where-sum.ensures)

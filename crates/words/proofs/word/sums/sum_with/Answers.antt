@@ -2,16 +2,13 @@
 -- lies above them; where that is 0, so are the digits left.
 -- Assumes nothing.
 use mathlib.Core.Path.{◌≡◌, sym, ap, ◌∙◌}
-use Prim.Native.Nat.{ℕ, ◌<◌}
+use Prim.Native.Nat.{ℕ}
 use native.Mathlib.Nat.{div-one}
 use native.Mathlib.Omega.{arith}
 use lib.Bits.{bit_xor, xor_zero_r}
 use Rattle.laws.specs.Digits.{sum_over, digits}
 use Rattle.words.proofs.SumLaws.{byte_next, rest_next, rest_some, sum_whole}
 use Rattle.words.proofs.word.sums.sum_with.Goals as goal
-
-below : (c : tie.In-loop invariant_loop decreases_loop) → c.before.loop.j < 8
-below c = rest_some c.before.before.args.number c.before.loop.j (omega arith) c.before.loop.invariant.0 (λ z. c.loop-test.true (c.before.loop.invariant.1 ∙ z))
 
 start : (W : ℕ → ℕ) (sum number : ℕ) → sum ≡ bit_xor sum (sum_over W (digits 0 number))
 unfolding sum_over digits
@@ -24,7 +21,7 @@ pub loop-rest-preserved : goal.loop-rest-preserved
 loop-rest-preserved c =
     let l = c.loop-rest in
     let s = c.args in
-    let h = below c in (
+    let h = rest_some s.number l.j (omega arith) l.invariant.0 (λ z. c.loop-rest-test.true (l.invariant.1 ∙ z)) in (
       omega arith,
       rest_next s.number l.rest l.j l.invariant.1,
       λ W t. byte_next W s.table.now s.base s.number s.sum l.all l.rest l.j t h l.invariant.1 (l.invariant.2 W t),
