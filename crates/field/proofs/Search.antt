@@ -8,7 +8,7 @@ use native.Mathlib.Decide.{dec_lt, ℕ_discrete}
 use native.Mathlib.Omega.{arith}
 use lib.Bits.{bit_xor, xor_comm, xor_self}
 use lib.ListN.{get_or}
-use Rattle.laws.proofs.Xor.{xors}
+use Rattle.laws.proofs.Xor.{xors, xor_cancel}
 use Rattle.degree.specs.declared.Degree.{Degree}
 use Rattle.field.specs.declared.locate.Positions.{Positions}
 use Rattle.field.specs.declared.locate.Positions.TheVariants.{Zero, One, Two, Unfit}
@@ -73,7 +73,7 @@ module _ (d : Degree) (t : List ℕ) (tab : Tables d t) (s1 s3 i : ℕ) (h : i <
 
   -- which is the power of the second
   second_power : {j : ℕ} → Fits d s1 s3 (Two i j) → P j ≡ bit_xor s1 (get_or t i 0 % 128)
-  second_power {j} f = sym (left ∙ rw (← f.sum1) (simp xors))
+  second_power {j} f = sym (left ∙ rw (← f.sum1) (xor_comm (bit_xor (P i) (P j)) (P i) ∙ xor_cancel (P i) (P j)))
 
   -- no entry of a table
   none_second : ((j : ℕ) → ¬ (Fits d s1 s3 (Two i j))) → Second d s1 s3 i 65536

@@ -21,9 +21,9 @@ and_right true b t = t
 and_right false b t = absurd t
 
 -- the same of tests that are true
-pub and-true : (a b : Bool) → (a && b) ≡ true → (a ≡ true) × (b ≡ true)
-and-true true b e = (refl, e)
-and-true false b e = absurd (true≢false (sym e))
+pub and_true : (a b : Bool) → (a && b) ≡ true → (a ≡ true) × (b ≡ true)
+and_true true b e = (refl, e)
+and_true false b e = absurd (true≢false (sym e))
 
 -- what a test over the numbers below n says of each
 pub every_at : (f : ℕ → Bool) (n : ℕ) → T (every f n) → {k : ℕ} → k < n → T (f k)

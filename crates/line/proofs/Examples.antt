@@ -135,5 +135,5 @@ answer (suc i) (r ∷ rs) = answer i rs
 pub p7_messages : messages (bounded Four) p7 p7 0 ≡ zeros
 p7_messages = messages_same (bounded Four) p7 0 zeros (ap (answer 6) table) refl
 
-pub P8-messages : messages (bounded Four) p7 p7 (2 ^ 6 + 2 ^ 7) ≡ word_g
-P8-messages = messages_same (bounded Four) p7 (2 ^ 6 + 2 ^ 7) word_g (ap (answer 7) table) refl
+pub p8_messages : messages (bounded Four) p7 p7 (2 ^ 6 + 2 ^ 7) ≡ word_g
+p8_messages = messages_same (bounded Four) p7 (2 ^ 6 + 2 ^ 7) word_g (ap (answer 7) table) refl

@@ -61,17 +61,17 @@ module _ (d : Degree) (ys rs : List ℕ) (f : ℕ) {y r : Line} (p : Packs (size
       sym (cell_of_line k p) ∙ ap₂ (λ (a b : ℕ). a + 2 * b) s.0 s.1 ∙ cell_of_line k q
 
   -- a cell that the mask leaves out
-  abbrev Left-out : ℕ → Type 0
-  Left-out k = (cell (start d ys rs f) k ≡ message (bounded d) ys rs f k) × (cost (clause (bounded d) ys rs f k) ≡ 0)
+  abbrev LeftOut : ℕ → Type 0
+  LeftOut k = (cell (start d ys rs f) k ≡ message (bounded d) ys rs f k) × (cost (clause (bounded d) ys rs f k) ≡ 0)
 
   -- the message of a cell that is the channel's
-  pub equal_outside : (k : ℕ) → k < size d → few ys ≡ true → cell ys k ≡ cell rs k → Left-out k
+  pub equal_outside : (k : ℕ) → k < size d → few ys ≡ true → cell ys k ≡ cell rs k → LeftOut k
   unfolding settled
   equal_outside k hk e g =
       rw (clause_settles d ys rs f k p.cells q.cells hk, ← equal_clause d ys rs f k p.cells q.cells hk e g) (equal_start d ys rs f e k (rw q.cells.long hk) g, refl)
 
   -- with 6 or more erasures, the message of a cell that is settled by the clause channel
-  channel_outside : (k : ℕ) → k < size d → few ys ≡ false → Channel ≡ clause (bounded d) ys rs f k → Left-out k
+  channel_outside : (k : ℕ) → k < size d → few ys ≡ false → Channel ≡ clause (bounded d) ys rs f k → LeftOut k
   unfolding start settled
   channel_outside k hk m c = rw (clause_settles d ys rs f k p.cells q.cells hk, ← c, m) (refl, refl)
 
@@ -88,7 +88,7 @@ module _ (d : Degree) (ys rs : List ℕ) (f : ℕ) {y r : Line} (p : Packs (size
       (sym (xor_at (value y.erased) (bit_and (value y.erased) (value r.erased)) k
       ∙ ap₂ bit_xor (erased_at k p) (and_at (value y.erased) (value r.erased) k ∙ ap₂ bit_and (erased_at k p) (erased_at k q))) ∙ z)
 
-  channel_rest : designed_distance ≤ e → (k : ℕ) → k < size d → (eqb (erasures ys) designed_distance && (eqb (cell ys k) 2 && not (eqb (cell rs k) 2))) ≡ false → Left-out k
+  channel_rest : designed_distance ≤ e → (k : ℕ) → k < size d → (eqb (erasures ys) designed_distance && (eqb (cell ys k) 2 && not (eqb (cell rs k) 2))) ≡ false → LeftOut k
   channel_rest l k hk z =
       let many = is_many ys e h l in
       channel_outside k hk many (many_clause d ys rs f k p.cells q.cells hk many false z)

@@ -1,6 +1,5 @@
 -- `syndrome::syndrome_of` meets its contract: the sum of the weights holds the three check sums side by side.
 -- Assumes nothing.
-use borrow.Author.Rules.{rules}
 use mathlib.Core.Path.{◌∙◌}
 use native.Mathlib.Omega.{arith}
 use Rattle.laws.specs.Digits.{digits}
@@ -8,22 +7,14 @@ use Rattle.words.specs.Working.Word.{value, width}
 use Rattle.field.specs.Working.Tables.{weight}
 use Rattle.field.proofs.Primitive.{primitive}
 use Rattle.field.proofs.Weights.{s1_lt, s3_lt, weight_sum}
-use Rattle.field.proofs.syndrome.syndrome_of.Statement.{statement}
-use Rattle.field.proofs.syndrome.syndrome_of.Tie as tie
+use Rattle.field.proofs.syndrome.syndrome_of.Goals as goal
 
-byte-sum-requires : tie.Need-byte-sum-requires
-byte-sum-requires c κs = search rules
-
-returns : tie.Need-returns
+pub returns : goal.returns
 returns c =
-    let s = c.before.before in
-    let d = s.args.d in
-    let cells = digits width (value s.args.word) in
-    let e = c.byte-sum.ensures (λ i. weight d i) s.requires.filled.sums ∙ weight_sum d cells in
+    let d = c.args.d in
+    let cells = digits width (value c.args.word) in
+    let e = c.byte_sum-sum.ensures (λ i. weight d i) c.requires.filled.sums ∙ weight_sum d cells in
     let l1 = s1_lt d cells in
     let l3 = s3_lt d cells in
     let room = (primitive d).room in
     record { s1 = omega arith; s3 = omega arith; parity = omega arith }
-
-pub syndrome-of-spec : {M : Type 1} → statement M
-syndrome-of-spec = tie.close (tie.spec byte-sum-requires returns)
