@@ -163,6 +163,7 @@ def main():
                 print(f"look: {path}: names that fall together: {fallen}")
             new = WORKING.sub("Working", "".join(out))
             new = re.sub(r"(?m)^pub mod working$", "pub mod Working", new)
+            new = re.sub(r"(?m)^file: specs/working(?=[/.])", "file: specs/Working", new)
             if new != text:
                 changed[path] = new
     if "--try" in sys.argv:

@@ -14,7 +14,7 @@ use Rattle.degree.specs.Degree.{size}
 use Rattle.line.specs.Bounded.{bounded}
 use Rattle.line.specs.Decoding.{messages}
 use Rattle.line.specs.Refusals.{at_most}
-use Rattle.line.proofs.Examples.{zeros, word_g, p7, p7_messages, P8-messages}
+use Rattle.line.proofs.Examples.{zeros, word_g, p7, p7_messages, p8_messages}
 use Rattle.line.proofs.Refusing.{at_most_small}
 use Rattle.array.specs.Arrays.{line, column}
 use Rattle.array.specs.Halves.{row_half, column_half}
@@ -74,4 +74,4 @@ pub tied_row_zero : (w : List ℕ) → line 16 (row_half Four two_tied two_tied 
 tied_row_zero w = row_line_word Four (0 ∷ (2 ^ 6 + 2 ^ 7) ∷ w) tied_array tied_array 0 (omega arith) ∙ p7_messages
 
 pub tied_row_one : (w : List ℕ) → line 16 (row_half Four two_tied two_tied (0 ∷ (2 ^ 6 + 2 ^ 7) ∷ w)) 1 ≡ word_g
-tied_row_one w = row_line_word Four (0 ∷ (2 ^ 6 + 2 ^ 7) ∷ w) tied_array tied_array 1 (omega arith) ∙ P8-messages
+tied_row_one w = row_line_word Four (0 ∷ (2 ^ 6 + 2 ^ 7) ∷ w) tied_array tied_array 1 (omega arith) ∙ p8_messages

@@ -22,7 +22,7 @@ use Rattle.line.specs.Clauses.{reach, same, agrees, by_reach, clause, count}
 use Rattle.line.specs.Refusals.{refusal, given, some, at_most}
 use Rattle.line.proofs.Distances.{is_codeword_lem}
 use Rattle.line.proofs.CodeExamples.{four, four_zeros, four_ones}
-use Rattle.line.proofs.Examples.{zeros, word_g, p7, p7_messages, P8-messages}
+use Rattle.line.proofs.Examples.{zeros, word_g, p7, p7_messages, p8_messages}
 use Rattle.line.proofs.Refusing.{at_most_small, given_taken}
 use Rattle.array.specs.declared.entry.DecodeAnswer.{DecodeAnswer}
 use Rattle.array.specs.Arrays.{line, lines, transpose, column}
@@ -139,7 +139,7 @@ g_sent : ProductCodeword Four rows_of_g
 g_sent = record { whole = g_word.long; rows = g_rows; columns = g_columns }
 
 tied_ones : row_half Four tied_rows tied_rows one_words ≡ rows_of_g
-tied_ones = tied_half (2 ^ 6 + 2 ^ 7) word_g P8-messages refl
+tied_ones = tied_half (2 ^ 6 + 2 ^ 7) word_g p8_messages refl
 
 pub ones_left : plain Four 1 tied_rows tied_rows one_words ≡ rows_of_g
 ones_left =

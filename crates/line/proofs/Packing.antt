@@ -85,7 +85,7 @@ packed_as e p = record { room = p.room; cells = p.cells; ones = e ∙ p.ones }
 
 -- without erasures both filled words are the line's own
 pub filled_none : {n : ℕ} {cs : List ℕ} {l : Line} (f : ℕ) → Packs n cs l → value l.erased ≡ 0 → (s : Side) → PacksWord n (filled s cs f) (value l.ones)
-filled_none {l} f p z s = elim s [ One ↦ packed_as (sym one) (filled_one f p) | Two ↦ packed_as (sym two) (filled_two f p) ]
+filled_none {n} {cs} {l} f p z s = elim s as (λ (s : Side). PacksWord n (filled s cs f) (value l.ones)) [ One ↦ packed_as (sym one) (filled_one f p) | Two ↦ packed_as (sym two) (filled_two f p) ]
   where
     one : bit_or (value l.ones) (bit_and (value l.erased) f) ≡ value l.ones
     one = ap (λ (e : ℕ). bit_or (value l.ones) (bit_and e f)) z ∙ ap (bit_or (value l.ones)) (and_zero_l f) ∙ or_zero_r (value l.ones)

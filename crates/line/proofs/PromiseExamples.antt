@@ -20,7 +20,7 @@ use Rattle.line.specs.Decoding.{decode}
 use Rattle.line.specs.Clauses.{reach, same, agrees, by_reach, clause, count}
 use Rattle.line.specs.Refusals.{refusal, given, at_most, line_tests, messages_tests}
 use Rattle.line.specs.Entries.{word_numbers, line_numbers, messages_numbers, is_found, Answered, WordAnswered, BoundedDone, DecodeLineDone, MessagesDone}
-use Rattle.line.proofs.Examples.{line, zeros, word_g, p3, p4, p7, p7_messages, P8-messages}
+use Rattle.line.proofs.Examples.{line, zeros, word_g, p3, p4, p7, p7_messages, p8_messages}
 
 -- ---- bounded distance: refusal, found, cells changed, and the word
 
@@ -99,7 +99,7 @@ pub messages_left :
     × MessagesLeave p7 p7 (2 ^ 6 + 2 ^ 7) word_g
     × MessagesLeave zeros (set zeros 0 3) 0 (replicate 16 9)
 unfolding given messages_tests at_most
-messages_left = (λ after a h. h.cells ∙ p7_messages, λ after a h. h.cells ∙ P8-messages, λ after a h. h.cells)
+messages_left = (λ after a h. h.cells ∙ p7_messages, λ after a h. h.cells ∙ p8_messages, λ after a h. h.cells)
 
 -- ---- the tests of a call for messages
 

@@ -1,7 +1,7 @@
 -- The walk over the cells of a mask, from the base line to all messages and the count.
 -- Assumes nothing.
 use mathlib.Core.Path.{◌≡◌, refl, sym, ◌∙◌, subst}
-use mathlib.Core.Bool.{Bool, true, false, not, cond}
+use mathlib.Core.Bool.{Bool, true, false, cond}
 use mathlib.Core.Logic.{◌≢◌}
 use mathlib.Core.List.{List}
 use Prim.Native.Nat.{ℕ, ◌+◌, ◌-◌, ◌*◌, ◌^◌, ◌≤◌, ◌<◌}
@@ -13,7 +13,7 @@ use lib.Count.{count_trailing_zeros}
 use lib.Dec.{eqb}
 use lib.ListN.{length, set}
 use lib.Seq.{get_or-set_same, get_or-set_other}
-use borrow.Author.Tests.{ne_eqb, eqb-true, eqb-false, not-true, not-false}
+use borrow.Author.Tests.{ne_eqb, eqb-true, eqb-false}
 use Rattle.laws.specs.Working.Bits.{bit_at}
 use Rattle.laws.specs.Sums.{sum_to}
 use Rattle.laws.proofs.Masks.{lowest, lowest_below, sum_mask, mask_turn, mask_all, mask_none}
@@ -107,11 +107,11 @@ module _ (d : Degree) (ys rs : List ℕ) (f : ℕ) where
 -- ---- the mask as a word
 
 -- the test that some cell is left, and that none is
-pub some_left : {v : ℕ} {t : Bool} → t ≡ eqb v 0 → not t ≡ true → v ≢ 0
-some_left {v} {t} e h = eqb-false v 0 (sym e ∙ not-true t h)
+pub some_left : {v : ℕ} {t : Bool} → t ≡ eqb v 0 → t ≡ false → v ≢ 0
+some_left {v} {t} e h = eqb-false v 0 (sym e ∙ h)
 
-pub none_left : {v : ℕ} {t : Bool} → t ≡ eqb v 0 → not t ≡ false → v ≡ 0
-none_left {v} {t} e h = eqb-true v 0 (sym e ∙ not-false t h)
+pub none_left : {v : ℕ} {t : Bool} → t ≡ eqb v 0 → t ≡ true → v ≡ 0
+none_left {v} {t} e h = eqb-true v 0 (sym e ∙ h)
 
 -- two decodings a cell at most, for the cell taken and those that are left
 pub mask_next : (c e : ℕ) {t u k : ℕ} → t < 2 ^ width → t ≢ 0 → k < width → k ≡ count_trailing_zeros width t → u ≡ bit_and t (t - 1) → e ≤ c + 2
