@@ -1,0 +1,10 @@
+-- `halves::column_half` meets its contract: a row half of the transposed array, transposed back.
+-- Assumes nothing.
+use Rattle.array.specs.Plain.{fillings}
+use Rattle.array.proofs.HalfLaws.{columns_done}
+use Rattle.array.proofs.halves.column_half.Goals as goal
+
+pub returns : goal.returns
+returns c =
+    let args = c.args in
+    columns_done args.d (fillings args.filling.now) c.transpose_rows.ensures c.send_columns-count.ensures c.transpose_rows-2.ensures c.write_rows.ensures
