@@ -1,0 +1,15 @@
+-- `reading::is_known` meets its contract. The loop's invariant: `all` is the test of the bytes passed.
+-- Assumes nothing.
+use Prim.Native.Nat.{◌-◌, ◌≤◌}
+use mathlib.Core.Path.{◌≡◌}
+use lib.ListN.{length}
+use Rattle.laws.specs.Tests.{every}
+use Rattle.text.specs.Text.{byte}
+use Rattle.text.specs.Working.Characters.{is_known}
+use Rattle.text.proofs.reading.is_known.Given as goal
+
+abbrev pub invariant-loop-p : goal.invariant-loop-p
+invariant-loop-p l = (l.p ≤ length l.text) × (l.all ≡ every (λ p. is_known (byte l.text p)) l.p)
+
+abbrev pub decreases-loop-p : goal.decreases-loop-p
+decreases-loop-p l = length l.text - l.p
