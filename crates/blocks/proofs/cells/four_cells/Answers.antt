@@ -3,12 +3,8 @@
 use native.Mathlib.Omega.{arith}
 use Rattle.blocks.proofs.PackedCells.{spread_out, spread_cells}
 use Prim.Native.Nat.{◌<◌}
-use Rattle.blocks.proofs.cells.four_cells.Statement.{statement}
-use Rattle.blocks.proofs.cells.four_cells.Tie as tie
+use Rattle.blocks.proofs.cells.four_cells.Goals as goal
 
-returns : tie.Need-returns
+pub returns : goal.returns
 unfolding spread_out
 returns c = let h : c.args.byte < 256 = omega arith in (spread_cells c.args.byte h, h)
-
-pub four-cells-spec : {M : Type 1} → statement M
-four-cells-spec = tie.close (tie.spec returns)
