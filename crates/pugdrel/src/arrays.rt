@@ -34,8 +34,7 @@ fn decode_numbers(answer: DecodeAnswer) -> [u64; 3]
 // ---- the calls
 
 // Decodes the received array into `cells`. Reports the count, the cells still unsure, and closed.
-#[unsafe(no_mangle)]
-pub extern "C" fn pugdrel_decode(
+pub fn pugdrel_decode(
     degree: u64,
     iterations: u64,
     received: &[u8],
@@ -53,24 +52,21 @@ pub extern "C" fn pugdrel_decode(
 }
 
 // The array of a message.
-#[unsafe(no_mangle)]
-pub extern "C" fn pugdrel_encode(degree: u64, message: &[u8], cells: &mut [u8]) -> u64
+pub fn pugdrel_encode(degree: u64, message: &[u8], cells: &mut [u8]) -> u64
     ensures { Encoded degree message.now cells.old cells.new result }
 {
     encode(degree, message, cells)
 }
 
 // The message of an array, its cells as they are.
-#[unsafe(no_mangle)]
-pub extern "C" fn pugdrel_extract(degree: u64, cells: &[u8], message: &mut [u8]) -> u64
+pub fn pugdrel_extract(degree: u64, cells: &[u8], message: &mut [u8]) -> u64
     ensures { Extracted degree cells.now message.old message.new result }
 {
     extract(degree, cells, message)
 }
 
 // Looks up a row. A part of a slice is no plain number, so its place is reported: where it starts in `cells`, and its length.
-#[unsafe(no_mangle)]
-pub extern "C" fn pugdrel_row(degree: u64, cells: &[u8], index: usize, report: &mut [u64]) -> u64
+pub fn pugdrel_row(degree: u64, cells: &[u8], index: usize, report: &mut [u64]) -> u64
     ensures { RowTold degree cells.now index report.old report.new result }
 {
     let end = lent(report.len() == 2, cells.len());

@@ -30,8 +30,7 @@ fn sheet_number(answer: ReadAnswer) -> u64
 // ---- the calls
 
 // Reads a file of three blocks into `cells`. Reports the sheet number.
-#[unsafe(no_mangle)]
-pub extern "C" fn pugdrel_read_blocks(file: &[u8], cells: &mut [u8], report: &mut [u64]) -> u64
+pub fn pugdrel_read_blocks(file: &[u8], cells: &mut [u8], report: &mut [u64]) -> u64
     ensures { ReadTold file.now cells.old cells.new report.old report.new result }
 {
     let end = lent(report.len() == 1, cells.len());
@@ -42,8 +41,7 @@ pub extern "C" fn pugdrel_read_blocks(file: &[u8], cells: &mut [u8], report: &mu
 }
 
 // Writes the three blocks of a sheet and its number.
-#[unsafe(no_mangle)]
-pub extern "C" fn pugdrel_write_blocks(number: u16, cells: &[u8], file: &mut [u8]) -> u64
+pub fn pugdrel_write_blocks(number: u16, cells: &[u8], file: &mut [u8]) -> u64
     ensures { WriteDone number cells.now file.old file.new result }
 {
     write_blocks(number, cells, file)

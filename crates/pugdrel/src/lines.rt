@@ -94,8 +94,7 @@ fn tell_found(answer: LineAnswer, report: &mut [u64]) -> u64
 }
 
 // Bounded-distance decoding of a full word, in place. Reports found, and the number of cells changed.
-#[unsafe(no_mangle)]
-pub extern "C" fn pugdrel_bounded_distance(degree: u64, word: &mut [u8], report: &mut [u64]) -> u64
+pub fn pugdrel_bounded_distance(degree: u64, word: &mut [u8], report: &mut [u64]) -> u64
     ensures { BoundedTold degree word.old word.new report.old report.new result }
 {
     let end = lent(report.len() == 2, word.len());
@@ -106,8 +105,7 @@ pub extern "C" fn pugdrel_bounded_distance(degree: u64, word: &mut [u8], report:
 }
 
 // Line decoding, in place. Reports found.
-#[unsafe(no_mangle)]
-pub extern "C" fn pugdrel_decode_line(
+pub fn pugdrel_decode_line(
     degree: u64,
     cells: &mut [u8],
     filling_low: u64,
@@ -122,8 +120,7 @@ pub extern "C" fn pugdrel_decode_line(
 }
 
 // The outgoing messages of a line, written to `messages`. Reports the count.
-#[unsafe(no_mangle)]
-pub extern "C" fn pugdrel_messages(
+pub fn pugdrel_messages(
     degree: u64,
     incoming: &[u8],
     channel: &[u8],

@@ -4,8 +4,7 @@ ghost use Rattle.load.specs.Entries.{Loaded};
 use load::entry::load;
 
 // The sheet encoded from a message, with so many cells wrong and so many unsure, at places that the seed decides.
-#[unsafe(no_mangle)]
-pub extern "C" fn pugdrel_load(
+pub fn pugdrel_load(
     degree: u64,
     seed: u64,
     wrong: u64,
