@@ -1,5 +1,5 @@
-// The entries for callers in C and Rust, as a static library: plain numbers and lent slices, and nothing asked of either.
-// include/pugdrel.h declares them for C.
+// The calls for callers in C and Rust: plain numbers and lent slices, and nothing asked of either. The crate `pugdrel_c` exports them
+// as a static library.
 #![tactic(auto)]
 
 pub mod reports; // the report that a call writes its numbers to
