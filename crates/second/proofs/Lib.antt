@@ -2,3 +2,5 @@ mod Loops
 mod Places
 mod Noting
 pub mod Ranges
+mod Digits
+mod Saying

@@ -6,3 +6,4 @@ pub mod Encoding
 pub mod Tallies
 pub mod Blocks
 pub mod Loads
+pub mod Sheets

@@ -1,5 +1,6 @@
 // What the program `sheet` reads and prints, read and printed here anew from document 01.
-ghost use Rattle.std.specs.Prelude.{◌<◌, ◌≤◌};
+ghost use Rattle.std.specs.Prelude.{◌≡◌, ◌<◌, ◌≤◌, take, drop};
+ghost use Rattle.second.specs.Working.Sheets.{last_digits, IsDigitCount};
 
 use crate::arrays::{Cells, area_of, decode, faults_in, is_closed};
 use crate::codes::cells_of;
@@ -113,13 +114,53 @@ fn read_input(n: usize, input: &[u8], cells: &mut Cells) -> u64
     }
 }
 
+// How many decimal digits a number has.
+fn digit_count(number: u64) -> usize
+    ensures { IsDigitCount number result }
+{
+    let mut many = 1;
+    let mut rest = number / 10;
+    while rest > 0 {
+        rest /= 10;
+        many += 1;
+    }
+    many
+}
+
+// Puts the last so many decimal digits of a number at the start of a room, the highest first.
+fn put_digits(number: u64, many: usize, digits: &mut [u8; 20])
+    requires { many ≤ 20 }
+    ensures digits { take many digits.new ≡ last_digits many number }
+    ensures others { drop many digits.new ≡ drop many digits.old }
+{
+    let mut i = many;
+    let mut rest = number;
+    while i > 0 {
+        i -= 1;
+        digits[i] = 48 + (rest % 10) as u8;
+        rest /= 10;
+    }
+}
+
+// Puts the decimal digits of a number at the start of a room, and gives how many there are.
+fn decimal(number: u64, digits: &mut [u8; 20]) -> usize
+    ensures within { result ≤ 20 }
+    ensures count { IsDigitCount number result }
+    ensures digits { take result digits.new ≡ last_digits result number }
+    ensures others { drop result digits.new ≡ drop result digits.old }
+{
+    let many = digit_count(number);
+    put_digits(number, many, digits);
+    many
+}
+
 // A number in decimal, and the byte after it.
 fn put_number(number: u64, end: u8, at: usize, output: &mut Text) -> usize
     requires { at ≤ 16700 }
     ensures { result ≤ 16700 }
 {
     let mut digits = [0u8; 20];
-    let many = io::decimal(number, &mut digits);
+    let many = decimal(number, &mut digits);
     let mut next = at;
     for d in 0..many {
         next = put_byte(digits[d % 20], next, output);

@@ -2,12 +2,14 @@
 // their results; from place 4 on numbers of its own; from place 8 on how often each clause was met; and from place 17 on how often an
 // array was left almost closed: it fails one of the tests of closed alone. Counts wrap, so that nothing has to be known of them; none
 // comes near 2^64.
-ghost use Rattle.std.specs.Prelude.{◌≡◌, ◌<◌, ◌≤◌, true, length, ◌==◌, slice_index};
+ghost use Rattle.std.specs.Prelude.{◌≡◌, ◌<◌, ◌≤◌, true, length, ◌==◌, slice_index, IfOk, OnOk};
+ghost use Rattle.std.specs.Io.KnownBytes.{Appends};
 ghost use Rattle.laws.specs.Sums.{sum_to};
 ghost use Rattle.second.specs.Working.Lines.{one_where, is_like};
-ghost use Rattle.second.specs.Working.Tallies.{mixed, next, ticked};
+ghost use Rattle.second.specs.Working.Tallies.{mixed, next, ticked, said_byte, said_text};
 
-use libc::STDOUT_FILENO;
+use std::io;
+use std::io::Write;
 use std::num::wrapping_add_u64;
 
 pub type Totals = [u64; 32];
@@ -108,28 +110,31 @@ pub fn same(one: &[u8], other: &[u8]) -> bool
 }
 
 // Writes a byte, or, for a '#', the number at a place; gives how many numbers were written.
-fn say_byte(byte: u8, tally: &Totals, place: usize) -> usize
-    ensures { (result ≡ one_where (byte == 35)) × (result ≤ 1) }
+fn say_byte<W: Write>(out: &mut W, byte: u8, tally: &Totals, place: usize) -> io::Result<usize>
+    ensures count { IfOk result (λ said. (said ≡ one_where (byte == 35)) × (said ≤ 1)) }
+    ensures text { OnOk result (Appends (W.contents out.old) (W.contents out.new) (said_byte byte tally.now place)) }
 {
     if byte == 35 {
-        io::print_decimal(STDOUT_FILENO, tally[place % 32]);
-        1
+        let number = tally[place % 32];
+        write!(out, "{number}")?;
+        Ok(1)
     } else {
         let one = [byte; 1];
-        io::write_all(STDOUT_FILENO, &one);
-        0
+        out.write_all(&one)?;
+        Ok(0)
     }
 }
 
 // Writes a line in which each '#' stands for the next number of a tally, from a place on; gives how many numbers were written.
-pub fn say(line: &[u8], tally: &Totals, from: usize) -> usize
-    ensures { result ≡ sum_to (is_like 35 line.now) (length line.now) }
+pub fn say<W: Write>(out: &mut W, line: &[u8], tally: &Totals, from: usize) -> io::Result<usize>
+    ensures count { IfOk result (λ said. said ≡ sum_to (is_like 35 line.now) (length line.now)) }
+    ensures text { OnOk result (Appends (W.contents out.old) (W.contents out.new) (said_text line.now tally.now from (length line.now))) }
 {
     let long = line.len();
     let start = from % 32;
     let mut said = 0;
     for i in 0..long {
-        said += say_byte(line[i], tally, start + said);
+        said += say_byte(out, line[i], tally, start + said)?;
     }
-    said
+    Ok(said)
 }

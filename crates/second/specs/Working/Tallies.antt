@@ -1,5 +1,7 @@
 -- Tallies: 32 counts, which wrap past 64 bits.
-use Rattle.std.specs.Prelude.{ℕ, ◌+◌, ◌*◌, ◌/◌, ◌%◌, ◌^◌, Bool, cond, List, bit_xor, slice_index, slice_set}
+use Rattle.std.specs.Prelude.{ℕ, zero, suc, ◌+◌, ◌*◌, ◌/◌, ◌%◌, ◌^◌, Bool, cond, List, [], ◌∷◌, ◌++◌, ◌==◌, bit_xor, decimal, slice_index, slice_set}
+use Rattle.laws.specs.Sums.{sum_to}
+use Rattle.second.specs.Working.Lines.{is_like}
 
 -- one more
 abbrev pub next : ℕ → ℕ
@@ -19,3 +21,12 @@ stirred a =
 -- a number mixed into a sum: what comes of it hangs on both, and on the order of many
 abbrev pub mixed : (sum value : ℕ) → ℕ
 mixed sum value = stirred (((sum + value) % 2 ^ 64 + 11400714819323198485) % 2 ^ 64)
+
+-- what is written for a byte of a line: for a '#' the number at a place, and else the byte
+abbrev pub said_byte : (byte : ℕ) (tally : List ℕ) (place : ℕ) → List ℕ
+said_byte byte tally place = cond (byte == 35) (decimal (slice_index tally (place % 32))) (byte ∷ [])
+
+-- what is written for the first k bytes of a line: each '#' stands for the next number of a tally, from a place on
+unfoldable pub said_text : (line tally : List ℕ) (from : ℕ) → ℕ → List ℕ
+said_text line tally from zero = []
+said_text line tally from (suc k) = said_text line tally from k ++ said_byte (slice_index line k) tally (from % 32 + sum_to (is_like 35 line) k)

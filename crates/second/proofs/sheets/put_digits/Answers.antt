@@ -1,0 +1,14 @@
+-- `sheets::put_digits` meets its contract.
+use Rattle.std.proofs.Common.{◌-◌, ◌∙◌, arith}
+use Rattle.std.proofs.lemmas.List.{drop-set-lt}
+use Rattle.second.proofs.Digits.{digits_next}
+use Rattle.second.proofs.sheets.put_digits.Goals as goal
+
+pub loop-i-preserved : goal.loop-i-preserved
+loop-i-preserved c =
+    let turn = c.loop-i in
+    let many = c.args.many in (
+      omega arith,
+      digits_next turn.i many turn.rest turn.digits (omega arith) (omega arith) (omega arith) ∙ turn.invariant.1,
+      drop-set-lt many turn.digits (turn.i - 1) _ (omega arith) ∙ turn.invariant.2,
+    )

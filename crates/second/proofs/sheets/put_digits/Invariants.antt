@@ -1,0 +1,10 @@
+-- The digits still to write, and then those written, are the digits of the number.
+use Rattle.std.proofs.Common.{◌≡◌, ◌≤◌, ◌++◌, take, drop}
+use Rattle.second.specs.Working.Sheets.{last_digits}
+use Rattle.second.proofs.sheets.put_digits.Given as goal
+
+abbrev pub invariant-loop-i : goal.invariant-loop-i
+invariant-loop-i l = (l.i ≤ l.many) × (last_digits l.i l.rest ++ drop l.i (take l.many l.digits) ≡ last_digits l.many l.number) × (drop l.many l.digits ≡ drop l.many l.initial.digits)
+
+abbrev pub decreases-loop-i : goal.decreases-loop-i
+decreases-loop-i l = l.i

@@ -1,0 +1,25 @@
+-- `tallies::say` meets its contract.
+use Rattle.std.proofs.Common.{refl, arith}
+use Rattle.laws.specs.Sums.{sum_to}
+use Rattle.second.specs.Working.Lines.{is_like}
+use Rattle.second.proofs.Loops.{sum_next}
+use Rattle.second.proofs.Saying.{said_none, said_next}
+use Rattle.second.proofs.tallies.say.Goals as goal
+
+pub loop-i-init : goal.loop-i-init
+unfolding sum_to
+loop-i-init g c = record {
+  count = refl;
+  few = omega arith;
+  text = said_none c.args.line.now c.args.tally.now c.args.from _;
+}
+
+pub loop-i-preserved : goal.loop-i-preserved
+loop-i-preserved g c =
+    let s = c.args in
+    let turn = c.loop-i in
+    record {
+      count = rw c.in_ok-said.ensures.count.0 (sum_next (is_like 35 s.line.now) turn.i turn.invariant.count);
+      few = omega (arith, c.in_ok-said.ensures.count.1);
+      text = said_next s.line.now s.tally.now s.from turn.i turn.said _ _ _ turn.invariant.count turn.invariant.text c.in_ok-said.ensures.text;
+    }
