@@ -1,11 +1,8 @@
 -- `blocks::all_sums_right` meets its contract. The loop's invariant: the first blocks are tested. Assumes nothing.
-use Rattle.std.proofs.Common.{◌≡◌, ◌-◌, ◌≤◌}
+use Rattle.std.proofs.Common.{◌≡◌, ◌≤◌}
 use Rattle.laws.specs.Tests.{every}
 use Rattle.second.specs.Working.Blocks.{sums_right}
 use Rattle.second.proofs.blocks.all_sums_right.Given as goal
 
 abbrev pub invariant-loop-block : goal.invariant-loop-block
 invariant-loop-block l = (l.block ≤ 3) × (l.right ≡ every (sums_right l.file) l.block)
-
-abbrev pub decreases-loop-block : goal.decreases-loop-block
-decreases-loop-block l = 3 - l.block

@@ -1,10 +1,7 @@
 -- `blocks::sum_blocks` meets its contract. The loop's invariant: the first blocks have their sums. Assumes nothing.
-use Rattle.std.proofs.Common.{◌≡◌, ◌-◌, ◌≤◌, length}
+use Rattle.std.proofs.Common.{◌≡◌, ◌≤◌, length}
 use Rattle.second.specs.Working.Blocks.{summed}
 use Rattle.second.proofs.blocks.sum_blocks.Given as goal
 
 abbrev pub invariant-loop-block : goal.invariant-loop-block
 invariant-loop-block l = (l.block ≤ 3) × (l.file ≡ summed l.block l.initial.file) × (length l.file ≡ length l.initial.file)
-
-abbrev pub decreases-loop-block : goal.decreases-loop-block
-decreases-loop-block l = 3 - l.block

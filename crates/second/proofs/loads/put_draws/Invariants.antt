@@ -6,6 +6,3 @@ use Rattle.second.proofs.loads.put_draws.Given as goal
 
 abbrev pub invariant-loop-k : goal.invariant-loop-k
 invariant-loop-k l = (l.k ≤ l.last) × (l.s ≡ shifted_times l.seed l.k) × (l.draws ≡ written (λ j. l.last - j) (λ j. draw_of l.seed (j + 1)) l.k l.initial.draws)
-
-abbrev pub decreases-loop-k : goal.decreases-loop-k
-decreases-loop-k l = l.last - l.k

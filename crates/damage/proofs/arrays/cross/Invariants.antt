@@ -1,0 +1,7 @@
+-- `arrays::cross` meets its contract. The loop's invariant: the cells are cells still. Assumes nothing.
+use Rattle.std.proofs.Common.{◌≤◌}
+use Rattle.second.specs.Working.Loops.{Below}
+use Rattle.damage.proofs.arrays.cross.Given as goal
+
+abbrev pub invariant-loop-i : goal.invariant-loop-i
+invariant-loop-i l = (l.i ≤ l.n) × (Below 3 l.across → Below 3 l.initial.cells → Below 3 l.cells)
