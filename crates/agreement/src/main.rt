@@ -25,6 +25,8 @@ use second::tallies::{
     ALMOST_CLOSED, BOUNDED_DISTANCE, CLAUSES, DECODE_LINE, ENCODE, EXTRACT, LINE_MESSAGES, OWN,
     ROW, Totals, mix, note, room_of, same, say, tick_if,
 };
+use std::io;
+use std::io::Write;
 use std::num::wrapping_add_u64;
 
 fn degree_of(n: usize) -> u64 {
@@ -847,184 +849,248 @@ fn test_acceptances(n: usize, tally: &mut Totals)
 // ---- what is printed
 
 // How often each clause was met.
-fn say_clauses(tally: &Totals) {
+fn say_clauses<W: Write>(out: &mut W, tally: &Totals) -> io::Result<()> {
     say(
+        out,
         b"clauses: # equal, # crowded, # both, # neither, # agreeing, # unchanged, # open, # afresh, # channel\n",
         tally,
         CLAUSES,
-    );
+    )?;
+    Ok(())
 }
 
 // An entry on words or lines.
-fn run_lines(entry: usize, n: usize, weights: &Weights, many: usize, line: &[u8])
+fn run_lines<W: Write>(
+    out: &mut W,
+    entry: usize,
+    n: usize,
+    weights: &Weights,
+    many: usize,
+    line: &[u8],
+) -> io::Result<()>
     requires { (15 < n) × (n ≤ 128) }
 {
     let mut tally = [0u64; 32];
     test_lines(entry, n, weights, many, &mut tally);
-    say(line, &tally, 0);
+    say(out, line, &tally, 0)?;
     if entry == LINE_MESSAGES {
-        say_clauses(&tally);
+        say_clauses(out, &tally)?;
     }
+    Ok(())
 }
 
-fn run_check_sums(n: usize, weights: &Weights)
+fn run_check_sums<W: Write>(out: &mut W, n: usize, weights: &Weights) -> io::Result<()>
     requires { (15 < n) × (n ≤ 128) }
 {
     let mut tally = [0u64; 32];
     test_check_sums(n, weights, &mut tally);
     say(
+        out,
         b"all check sums: # words, # agree, # differ, sum #; # found, # with no cell changed, # with one, # with two\n",
         &tally,
         0,
-    );
+    )?;
+    Ok(())
 }
 
-fn run_decoding(almost_closed: bool, n: usize, weights: &Weights, many: usize, line: &[u8])
+fn run_decoding<W: Write>(
+    out: &mut W,
+    almost_closed: bool,
+    n: usize,
+    weights: &Weights,
+    many: usize,
+    line: &[u8],
+) -> io::Result<()>
     requires { (15 < n) × (n ≤ 128) }
 {
     let mut tally = [0u64; 32];
     test_decoding(almost_closed, n, weights, many, &mut tally);
-    say(line, &tally, 0);
+    say(out, line, &tally, 0)?;
     say(
+        out,
         b"left almost closed: # with good columns and rows off, # with good rows and columns off, # with good lines and unsure cells\n",
         &tally,
         ALMOST_CLOSED,
-    );
-    say_clauses(&tally);
+    )?;
+    say_clauses(out, &tally)
 }
 
-fn run_others(entry: usize, n: usize, many: usize, line: &[u8])
+fn run_others<W: Write>(
+    out: &mut W,
+    entry: usize,
+    n: usize,
+    many: usize,
+    line: &[u8],
+) -> io::Result<()>
     requires { (15 < n) × (n ≤ 128) }
 {
     let mut tally = [0u64; 32];
     test_others(entry, n, many, &mut tally);
-    say(line, &tally, 0);
+    say(out, line, &tally, 0)?;
+    Ok(())
 }
 
 // The entries on words and lines.
-fn run_line_entries(n: usize, weights: &Weights, many: usize)
+fn run_line_entries<W: Write>(
+    out: &mut W,
+    n: usize,
+    weights: &Weights,
+    many: usize,
+) -> io::Result<()>
     requires { (15 < n) × (n ≤ 128) }
 {
     run_lines(
+        out,
         BOUNDED_DISTANCE,
         n,
         weights,
         many,
         b"bounded distance: # words, # agree, # differ, sum #; # found, # with no cell changed, # with one, # with two\n",
-    );
-    run_check_sums(n, weights);
+    )?;
+    run_check_sums(out, n, weights)?;
     run_lines(
+        out,
         DECODE_LINE,
         n,
         weights,
         many,
         b"line decoding: # lines, # agree, # differ, sum #; # found\n",
-    );
+    )?;
     run_lines(
+        out,
         LINE_MESSAGES,
         n,
         weights,
         many,
         b"messages: # lines, # agree, # differ, sum #\n",
-    );
+    )
 }
 
 // The entries on arrays.
-fn run_array_entries(n: usize, weights: &Weights, many: usize)
+fn run_array_entries<W: Write>(
+    out: &mut W,
+    n: usize,
+    weights: &Weights,
+    many: usize,
+) -> io::Result<()>
     requires { (15 < n) × (n ≤ 128) }
 {
     run_decoding(
+        out,
         false,
         n,
         weights,
         many,
         b"decode: # arrays, # agree, # differ, sum #; # closed, # restored; # within the row condition, # of them restored and closed\n",
-    );
+    )?;
     run_decoding(
+        out,
         true,
         n,
         weights,
         many,
         b"decode, almost closed: # arrays, # agree, # differ, sum #; # closed, # left as received\n",
-    );
+    )?;
     run_others(
+        out,
         ENCODE,
         n,
         many,
         b"encode: # arrays, # agree, # differ, sum #\n",
-    );
+    )?;
     run_others(
+        out,
         EXTRACT,
         n,
         many,
         b"extract: # arrays, # agree, # differ, sum #\n",
-    );
-    run_others(ROW, n, many, b"row: # rows, # agree, # differ, sum #\n");
+    )?;
+    run_others(
+        out,
+        ROW,
+        n,
+        many,
+        b"row: # rows, # agree, # differ, sum #\n",
+    )
 }
 
-fn run_loads(n: usize, many: u64)
+fn run_loads<W: Write>(out: &mut W, n: usize, many: u64) -> io::Result<()>
     requires { (15 < n) × (n ≤ 128) }
 {
     let mut tally = [0u64; 32];
     test_loads(n, many, &mut tally);
     say(
+        out,
         b"load: # sheets, # agree, # differ, sum #; # cells inverted, # unsure\n",
         &tally,
         0,
-    );
+    )?;
+    Ok(())
 }
 
-fn run_degree(degree: u64, lines: usize, arrays: usize) {
+fn run_degree<W: Write>(out: &mut W, degree: u64, lines: usize, arrays: usize) -> io::Result<()> {
     let n = cells_of(degree);
     let weights = weights_of(n);
-    say(b"degree #\n", &[degree; 32], 0);
-    run_line_entries(n, &weights, lines);
-    run_array_entries(n, &weights, arrays);
-    run_loads(n, arrays as u64);
+    say(out, b"degree #\n", &[degree; 32], 0)?;
+    run_line_entries(out, n, &weights, lines)?;
+    run_array_entries(out, n, &weights, arrays)?;
+    run_loads(out, n, arrays as u64)
 }
 
-fn run_files(many: usize) {
+fn run_files<W: Write>(out: &mut W, many: usize) -> io::Result<()> {
     let mut writing = [0u64; 32];
     let mut reading = [0u64; 32];
     test_files(many, &mut writing, &mut reading);
     say(
+        out,
         b"write_blocks: # sheets, # agree, # differ, sum #\n",
         &writing,
         0,
-    );
+    )?;
     say(
+        out,
         b"read_blocks: # files, # agree, # differ, sum #\n",
         &reading,
         0,
-    );
+    )?;
+    Ok(())
 }
 
-fn run_draws(seeds: u64, many: u64)
+fn run_draws<W: Write>(out: &mut W, seeds: u64, many: u64) -> io::Result<()>
     requires { many ≤ 16384 }
 {
     let mut tally = [0u64; 32];
     test_seeds(seeds, many, &mut tally);
-    say(b"draws: # draws, # agree, # differ, sum #\n", &tally, 0);
+    say(
+        out,
+        b"draws: # draws, # agree, # differ, sum #\n",
+        &tally,
+        0,
+    )?;
+    Ok(())
 }
 
-fn run_acceptance(degree: u64) {
+fn run_acceptance<W: Write>(out: &mut W, degree: u64) -> io::Result<()> {
     let mut tally = [0u64; 32];
     tally[0] = degree;
     test_acceptances(cells_of(degree), &mut tally);
     say(
+        out,
         b"acceptance run of degree #: # sheets, cells #, count #, unsure #, closed #\n",
         &tally,
         0,
-    );
+    )?;
+    Ok(())
 }
 
-fn main() {
-    run_degree(4, 20000, 1530);
-    run_degree(6, 3000, 255);
-    run_degree(7, 1000, 51);
-    run_files(1000);
-    run_draws(300, 300);
-    run_acceptance(4);
-    run_acceptance(6);
-    run_acceptance(7);
+fn main(rt: HostRuntime) -> io::Result<()> {
+    let mut out = io::writer(&rt);
+    run_degree(&mut out, 4, 20000, 1530)?;
+    run_degree(&mut out, 6, 3000, 255)?;
+    run_degree(&mut out, 7, 1000, 51)?;
+    run_files(&mut out, 1000)?;
+    run_draws(&mut out, 300, 300)?;
+    run_acceptance(&mut out, 4)?;
+    run_acceptance(&mut out, 6)?;
+    run_acceptance(&mut out, 7)
 }

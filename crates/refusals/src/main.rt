@@ -20,6 +20,8 @@ use second::tallies::{
     BOUNDED_DISTANCE, DECODE, DECODE_LINE, ENCODE, EXTRACT, LINE_MESSAGES, OWN, ROW, Totals, note,
     room_of, same, say, tick_if,
 };
+use std::io;
+use std::io::Write;
 
 // A call is given by one number, whose digits choose the degree, the iterations, the lengths of up to three slices, the row, and
 // the cell that is spoilt in the first and in the second slice. Digit 0 is always right. How many more values than it each of the eight
@@ -303,27 +305,36 @@ fn test_refusals(entry: usize, lot: usize, many: usize, tally: &mut Totals)
 }
 
 // What was tried, and how many are to be taken and to be refused with each of the first numbers.
-fn say_first_totals(beginning: &[u8], tally: &Totals) {
-    say(beginning, tally, 0);
+fn say_first_totals<W: Write>(out: &mut W, beginning: &[u8], tally: &Totals) -> io::Result<()> {
+    say(out, beginning, tally, 0)?;
     say(
+        out,
         b", # agree, # differ, sum #; # taken, # refused as 1, # as 2, # as 3, # as 4",
         tally,
         1,
-    );
+    )?;
+    Ok(())
 }
 
 // A line of these.
-fn say_totals(beginning: &[u8], tally: &Totals) {
-    say_first_totals(beginning, tally);
-    say(b"\n", tally, 0);
+fn say_totals<W: Write>(out: &mut W, beginning: &[u8], tally: &Totals) -> io::Result<()> {
+    say_first_totals(out, beginning, tally)?;
+    say(out, b"\n", tally, 0)?;
+    Ok(())
 }
 
-fn run_refusals(entry: usize, lot: usize, many: usize, beginning: &[u8])
+fn run_refusals<W: Write>(
+    out: &mut W,
+    entry: usize,
+    lot: usize,
+    many: usize,
+    beginning: &[u8],
+) -> io::Result<()>
     requires { (entry < 7) × (lot ≤ 4) }
 {
     let mut tally = [0u64; 32];
     test_refusals(entry, lot, many, &mut tally);
-    say_totals(beginning, &tally);
+    say_totals(out, beginning, &tally)
 }
 
 // Calls of decode at each degree, with 1 and with 20 iterations.
@@ -335,31 +346,39 @@ fn test_halves(tally: &mut Totals) {
     }
 }
 
-fn run_halves() {
+fn run_halves<W: Write>(out: &mut W) -> io::Result<()> {
     let mut tally = [0u64; 32];
     test_halves(&mut tally);
     say_totals(
+        out,
         b"calls of decode with half the filling numbers: # calls",
         &tally,
-    );
+    )
 }
 
 // All entries.
-fn run_lot(lot: usize)
+fn run_lot<W: Write>(out: &mut W, lot: usize) -> io::Result<()>
     requires { lot ≤ 4 }
 {
-    run_refusals(DECODE, lot, 1296, b"calls of decode: # calls");
-    run_refusals(ENCODE, lot, 108, b"calls of encode: # calls");
-    run_refusals(EXTRACT, lot, 108, b"calls of extract: # calls");
-    run_refusals(ROW, lot, 144, b"calls of row: # calls");
+    run_refusals(out, DECODE, lot, 1296, b"calls of decode: # calls")?;
+    run_refusals(out, ENCODE, lot, 108, b"calls of encode: # calls")?;
+    run_refusals(out, EXTRACT, lot, 108, b"calls of extract: # calls")?;
+    run_refusals(out, ROW, lot, 144, b"calls of row: # calls")?;
     run_refusals(
+        out,
         BOUNDED_DISTANCE,
         lot,
         36,
         b"calls of bounded_distance: # calls",
-    );
-    run_refusals(DECODE_LINE, lot, 36, b"calls of decode_line: # calls");
-    run_refusals(LINE_MESSAGES, lot, 972, b"calls of line_messages: # calls");
+    )?;
+    run_refusals(out, DECODE_LINE, lot, 36, b"calls of decode_line: # calls")?;
+    run_refusals(
+        out,
+        LINE_MESSAGES,
+        lot,
+        972,
+        b"calls of line_messages: # calls",
+    )
 }
 
 // ---- files: sheets in blocks
@@ -745,77 +764,82 @@ fn test_first_lines(degree: u64, tally: &mut Totals) {
     }
 }
 
-fn run_sheets(degree: u64, many: usize) {
+fn run_sheets<W: Write>(out: &mut W, degree: u64, many: usize) -> io::Result<()> {
     let n = cells_of(degree);
     let weights = weights_of(n);
     let mut tally = [0u64; 32];
     test_sheets(n, &weights, many, &mut tally);
-    say_totals(b"sheet: # texts", &tally);
+    say_totals(out, b"sheet: # texts", &tally)
 }
 
-fn run_first_lines() {
+fn run_first_lines<W: Write>(out: &mut W) -> io::Result<()> {
     let mut tally = [0u64; 32];
     test_first_lines(4, &mut tally);
     test_first_lines(6, &mut tally);
     test_first_lines(7, &mut tally);
-    say_totals(b"first lines of sheet: # texts", &tally);
+    say_totals(out, b"first lines of sheet: # texts", &tally)
 }
 
 // With the refusal numbers of files, and with those of loads.
-fn say_file_totals(beginning: &[u8], tally: &Totals) {
-    say_first_totals(beginning, tally);
-    say(b", # as 5, # as 6, # as 7\n", tally, OWN + 5);
+fn say_file_totals<W: Write>(out: &mut W, beginning: &[u8], tally: &Totals) -> io::Result<()> {
+    say_first_totals(out, beginning, tally)?;
+    say(out, b", # as 5, # as 6, # as 7\n", tally, OWN + 5)?;
+    Ok(())
 }
 
-fn say_load_totals(beginning: &[u8], tally: &Totals) {
-    say_first_totals(beginning, tally);
-    say(b", # as 8, # as 9\n", tally, OWN + 8);
+fn say_load_totals<W: Write>(out: &mut W, beginning: &[u8], tally: &Totals) -> io::Result<()> {
+    say_first_totals(out, beginning, tally)?;
+    say(out, b", # as 8, # as 9\n", tally, OWN + 8)?;
+    Ok(())
 }
 
-fn run_files(reads: bool, many: usize, beginning: &[u8]) {
+fn run_files<W: Write>(out: &mut W, reads: bool, many: usize, beginning: &[u8]) -> io::Result<()> {
     let mut tally = [0u64; 32];
     test_files(reads, many, &mut tally);
-    say_file_totals(beginning, &tally);
+    say_file_totals(out, beginning, &tally)
 }
 
-fn run_fitting(many: usize)
+fn run_fitting<W: Write>(out: &mut W, many: usize) -> io::Result<()>
     requires { many ≤ 65536 }
 {
     let mut tally = [0u64; 32];
     test_fitting(many, &mut tally);
     say_file_totals(
+        out,
         b"calls of read_blocks with the right lengths: # calls",
         &tally,
-    );
+    )
 }
 
-fn run_zero_sums() {
+fn run_zero_sums<W: Write>(out: &mut W) -> io::Result<()> {
     let mut tally = [0u64; 32];
     test_zero_sum(249, 510, &mut tally);
     test_zero_sum(253, 511, &mut tally);
     say_file_totals(
+        out,
         b"read_blocks with a sum of 0, and with 255 for it: # files",
         &tally,
-    );
+    )
 }
 
-fn run_loads(many: usize) {
+fn run_loads<W: Write>(out: &mut W, many: usize) -> io::Result<()> {
     let mut tally = [0u64; 32];
     test_loads(many, &mut tally);
-    say_load_totals(b"calls of load: # calls", &tally);
+    say_load_totals(out, b"calls of load: # calls", &tally)
 }
 
-fn main() {
-    run_lot(LOWER);
-    run_sheets(4, 1530);
-    run_sheets(6, 255);
-    run_lot(HIGHER);
-    run_halves();
-    run_sheets(7, 51);
-    run_first_lines();
-    run_files(false, 48, b"calls of write_blocks: # calls");
-    run_files(true, 5120, b"calls of read_blocks: # calls");
-    run_fitting(5120);
-    run_zero_sums();
-    run_loads(3456);
+fn main(rt: HostRuntime) -> io::Result<()> {
+    let mut out = io::writer(&rt);
+    run_lot(&mut out, LOWER)?;
+    run_sheets(&mut out, 4, 1530)?;
+    run_sheets(&mut out, 6, 255)?;
+    run_lot(&mut out, HIGHER)?;
+    run_halves(&mut out)?;
+    run_sheets(&mut out, 7, 51)?;
+    run_first_lines(&mut out)?;
+    run_files(&mut out, false, 48, b"calls of write_blocks: # calls")?;
+    run_files(&mut out, true, 5120, b"calls of read_blocks: # calls")?;
+    run_fitting(&mut out, 5120)?;
+    run_zero_sums(&mut out)?;
+    run_loads(&mut out, 3456)
 }

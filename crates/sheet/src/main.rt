@@ -1,78 +1,94 @@
 // The program `sheet`: reads standard input, has the crate `text` say what is printed for it, and prints that. An input longer
-// than the buffer is too long for an array of any degree, and so is the part of it that is read. A program has no exit status here,
-// so what could not be read or written is told on standard error.
+// than the buffer is too long for an array of any degree, and so is the part of it that is read. What could not be read or written is
+// told on standard error, and the program then ends with that error; what was read before it is still decoded and printed.
 #![tactic(auto)]
 
 ghost use Rattle.std.specs.Prelude.{◌≡◌, ◌≤◌, length};
 
-use libc::{STDERR_FILENO, STDIN_FILENO, STDOUT_FILENO};
+use std::io;
+use std::io::{Read, Write};
 
-// How many bytes were read, and did a read fail?
-#[derive(Clone, Copy)]
+// How many bytes were read, and the error, where a read failed.
+#[derive(Drop)]
 struct Reading {
     got: usize,
-    failed: bool,
+    end: io::Result<()>,
 }
 
 // One read, to the start of a buffer.
-fn read_once(buffer: &mut [u8]) -> Reading
+fn read_once<R: Read>(input: &mut R, buffer: &mut [u8]) -> Reading
     ensures { (result.got ≤ length buffer.new) × (length buffer.new ≡ length buffer.old) }
 {
-    let last = libc::read(STDIN_FILENO, buffer);
-    let got = io::count(last, buffer);
-    Reading {
-        got,
-        failed: last < 0,
+    match input.read(buffer) {
+        Ok(got) => Reading { got, end: Ok(()) },
+        Err(error) => Reading {
+            got: 0,
+            end: Err(error),
+        },
     }
 }
 
 // Reads until the buffer is full, the input ends or a read fails.
-fn read_input(buffer: &mut [u8]) -> Reading
+fn read_input<R: Read>(input: &mut R, buffer: &mut [u8]) -> Reading
     ensures { result.got ≤ length buffer.new }
 {
     let mut got = 0;
     let mut more = true;
-    let mut failed = false;
+    let mut end = Ok(());
     while more & (got < buffer.len()) {
-        let last = read_once(&mut buffer[got..]);
+        let last = read_once(input, &mut buffer[got..]);
         got += last.got;
         more = last.got > 0;
-        failed = last.failed;
+        end = last.end;
     }
-    Reading { got, failed }
+    Reading { got, end }
 }
 
-// Says on standard error that something went wrong, where it did.
-fn complain(wrong: bool, text: &[u8]) {
+// Says on standard error that something went wrong, where it did. Where that cannot be written either, nothing can be said.
+fn complain(rt: &impl Eprint, wrong: bool, text: &str) {
     if wrong {
-        io::write_all(STDERR_FILENO, text);
+        let _ = rt.eprint(text);
     }
 }
 
-fn print(output: &[u8; 16596], long: usize) {
+fn print(rt: &(impl Print + Eprint), output: &[u8; 16596], long: usize) -> io::Result<()> {
     let all = &output[..];
     if long <= all.len() {
-        let written = io::write_all(STDOUT_FILENO, &all[0..long]);
-        complain(!written, b"sheet: standard output could not be written\n");
+        let written = io::writer(rt).write_all(&all[0..long]);
+        complain(
+            rt,
+            written.is_err(),
+            "sheet: standard output could not be written\n",
+        );
+        written
+    } else {
+        Ok(())
     }
 }
 
-fn run(input: &[u8]) {
+fn run(rt: &(impl Print + Eprint), input: &[u8]) -> io::Result<()> {
     let mut output = [0u8; 16596];
     let long = text::sheet::sheet_text(input, &mut output);
-    print(&output, long);
+    print(rt, &output, long)
 }
 
-fn run_on(buffer: &[u8; 65536], got: usize) {
+fn run_on(rt: &(impl Print + Eprint), buffer: &[u8; 65536], got: usize) -> io::Result<()> {
     let all = &buffer[..];
     if got <= all.len() {
-        run(&all[0..got]);
+        run(rt, &all[0..got])
+    } else {
+        Ok(())
     }
 }
 
-fn main() {
-    let mut buffer = io::large_buffer();
-    let reading = read_input(&mut buffer);
-    complain(reading.failed, b"sheet: standard input could not be read\n");
-    run_on(&buffer, reading.got);
+fn main(rt: HostRuntime) -> io::Result<()> {
+    let mut buffer = [0u8; 65536];
+    let reading = read_input(&mut rt.reader(), &mut buffer);
+    complain(
+        &rt,
+        reading.end.is_err(),
+        "sheet: standard input could not be read\n",
+    );
+    run_on(&rt, &buffer, reading.got)?;
+    reading.end
 }
