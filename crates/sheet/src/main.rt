@@ -3,7 +3,9 @@
 // told on standard error, and the program then ends with that error; what was read before it is still decoded and printed.
 #![tactic(auto)]
 
-ghost use Rattle.std.specs.Prelude.{◌≡◌, ◌≤◌, length};
+ghost use Rattle.std.specs.Prelude.{◌≡◌, ◌<◌, ◌≤◌, length, take, OnOk, IfSome};
+ghost use Rattle.std.specs.Io.KnownBytes.{Appends, Consumes, IsAtEnd};
+ghost use Rattle.text.specs.Text.{printed};
 
 use std::io;
 use std::io::{Read, Write};
@@ -17,7 +19,9 @@ struct Reading {
 
 // One read, to the start of a buffer.
 fn read_once<R: Read>(input: &mut R, buffer: &mut [u8]) -> Reading
-    ensures { (result.got ≤ length buffer.new) × (length buffer.new ≡ length buffer.old) }
+    ensures within { (result.got ≤ length buffer.new) × (length buffer.new ≡ length buffer.old) }
+    ensures bytes { Consumes (R.remaining input.old) (R.remaining input.new) (take result.got buffer.new) }
+    ensures end { OnOk result.end (result.got ≡ 0 → 0 < length buffer.new → IsAtEnd (R.remaining input.new)) }
 {
     match input.read(buffer) {
         Ok(got) => Reading { got, end: Ok(()) },
@@ -30,7 +34,9 @@ fn read_once<R: Read>(input: &mut R, buffer: &mut [u8]) -> Reading
 
 // Reads until the buffer is full, the input ends or a read fails.
 fn read_input<R: Read>(input: &mut R, buffer: &mut [u8]) -> Reading
-    ensures { result.got ≤ length buffer.new }
+    ensures within { (result.got ≤ length buffer.new) × (length buffer.new ≡ length buffer.old) }
+    ensures bytes { Consumes (R.remaining input.old) (R.remaining input.new) (take result.got buffer.new) }
+    ensures whole { OnOk result.end (result.got < length buffer.new → IsAtEnd (R.remaining input.new)) }
 {
     let mut got = 0;
     let mut more = true;
@@ -51,10 +57,17 @@ fn complain(rt: &impl Eprint, wrong: bool, text: &str) {
     }
 }
 
-fn print(rt: &(impl Print + Eprint), output: &[u8; 16596], long: usize) -> io::Result<()> {
+fn print<W: Write>(
+    out: &mut W,
+    rt: &impl Eprint,
+    output: &[u8; 16596],
+    long: usize,
+) -> io::Result<()>
+    ensures { long ≤ 16596 → OnOk result (Appends (W.contents out.old) (W.contents out.new) (take long output.now)) }
+{
     let all = &output[..];
     if long <= all.len() {
-        let written = io::writer(rt).write_all(&all[0..long]);
+        let written = out.write_all(&all[0..long]);
         complain(
             rt,
             written.is_err(),
@@ -66,29 +79,46 @@ fn print(rt: &(impl Print + Eprint), output: &[u8; 16596], long: usize) -> io::R
     }
 }
 
-fn run(rt: &(impl Print + Eprint), input: &[u8]) -> io::Result<()> {
+fn run<W: Write>(out: &mut W, rt: &impl Eprint, input: &[u8]) -> io::Result<()>
+    ensures { OnOk result (Appends (W.contents out.old) (W.contents out.new) (printed input.now)) }
+{
     let mut output = [0u8; 16596];
     let long = text::sheet::sheet_text(input, &mut output);
-    print(rt, &output, long)
+    print(out, rt, &output, long)
 }
 
-fn run_on(rt: &(impl Print + Eprint), buffer: &[u8; 65536], got: usize) -> io::Result<()> {
+fn run_on<W: Write>(
+    out: &mut W,
+    rt: &impl Eprint,
+    buffer: &[u8; 65536],
+    got: usize,
+) -> io::Result<()>
+    ensures { got ≤ 65536 → OnOk result (Appends (W.contents out.old) (W.contents out.new) (printed (take got buffer.now))) }
+{
     let all = &buffer[..];
     if got <= all.len() {
-        run(rt, &all[0..got])
+        run(out, rt, &all[0..got])
     } else {
         Ok(())
     }
 }
 
-fn main(rt: HostRuntime) -> io::Result<()> {
+// What the program does, with any input and any output: it writes what is printed for the bytes that the input has, of which the buffer
+// takes the first 65536.
+fn read_and_print<R: Read, W: Write>(input: &mut R, out: &mut W, rt: &impl Eprint) -> io::Result<()>
+    ensures { OnOk result (IfSome (R.remaining input.old) (λ bytes. Appends (W.contents out.old) (W.contents out.new) (printed (take 65536 bytes)))) }
+{
     let mut buffer = [0u8; 65536];
-    let reading = read_input(&mut rt.reader(), &mut buffer);
+    let reading = read_input(input, &mut buffer);
     complain(
-        &rt,
+        rt,
         reading.end.is_err(),
         "sheet: standard input could not be read\n",
     );
-    run_on(&rt, &buffer, reading.got)?;
+    run_on(out, rt, &buffer, reading.got)?;
     reading.end
+}
+
+fn main(rt: HostRuntime) -> io::Result<()> {
+    read_and_print(&mut rt.reader(), &mut io::writer(&rt), &rt)
 }
