@@ -1084,7 +1084,7 @@ fn run_acceptance<W: Write>(out: &mut W, degree: u64) -> io::Result<()> {
 }
 
 fn main(rt: HostRuntime) -> io::Result<()> {
-    let mut out = io::writer(&rt);
+    let mut out = rt.stdout();
     run_degree(&mut out, 4, 20000, 1530)?;
     run_degree(&mut out, 6, 3000, 255)?;
     run_degree(&mut out, 7, 1000, 51)?;

@@ -829,7 +829,7 @@ fn run_loads<W: Write>(out: &mut W, many: usize) -> io::Result<()> {
 }
 
 fn main(rt: HostRuntime) -> io::Result<()> {
-    let mut out = io::writer(&rt);
+    let mut out = rt.stdout();
     run_lot(&mut out, LOWER)?;
     run_sheets(&mut out, 4, 1530)?;
     run_sheets(&mut out, 6, 255)?;

@@ -120,5 +120,5 @@ fn read_and_print<R: Read, W: Write>(input: &mut R, out: &mut W, rt: &impl Eprin
 }
 
 fn main(rt: HostRuntime) -> io::Result<()> {
-    read_and_print(&mut rt.reader(), &mut io::writer(&rt), &rt)
+    read_and_print(&mut rt.stdin(), &mut rt.stdout(), &rt)
 }
