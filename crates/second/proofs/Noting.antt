@@ -1,7 +1,7 @@
 -- What a comparison notes.
 -- Assumes nothing.
 use Rattle.std.proofs.Common.{◌≡◌, ℕ, ◌+◌, ◌<◌, ◌≤◌, Bool, true, false, ◌&&◌, eqb, List, [], ◌∷◌, length, get_or, take, set, sym, refl, ◌∙◌, add-one, arith, take_all, take-suc, eqb-true}
-use Rattle.laws.proofs.Tests.{and-true}
+use Rattle.laws.proofs.Tests.{and_true}
 use Rattle.second.specs.Working.Tallies.{next, ticked}
 
 -- a test that is noted at places 1 to 3 is counted at place 0
@@ -21,7 +21,7 @@ module _ (one other : List ℕ) (i : ℕ) where
   pub alike_next : {all : Bool} → (all ≡ true → Alike one other i) → i < length one → i < length other
       → (all && eqb (get_or one i 0) (get_or other i 0)) ≡ true → Alike one other (i + 1)
   alike_next {all} h p q e =
-      let both = and-true all (eqb (get_or one i 0) (get_or other i 0)) e in
+      let both = and_true all (eqb (get_or one i 0) (get_or other i 0)) e in
       let cell = eqb-true (get_or one i 0) (get_or other i 0) both.1 in
       ((h both.0).0, rw (add-one i, take-suc one i 0 p, take-suc other i 0 q, (h both.0).1, cell))
 
