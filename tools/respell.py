@@ -113,8 +113,8 @@ def main():
     ours = {it for it in names if re.match(r"[A-Za-z]", it) and ("-" in it or it in VALUES) and (it[0].islower() or it.split("-")[0] in VALUES)}
 
     # A lemma that would have its function's name.
-    functions = {snake(it) for it in names if CAMEL.match(it)} | {it for it in names if re.match(r"[a-z0-9_]+$", it)}
-    lemmas = {it: snake(it) + "_lem" for it in ours if "-" in it and snake(it) in functions}
+    functions = {snake(it) for it in names if CAMEL.match(it) and "-" not in it} | {it for it in names if re.match(r"[a-z0-9_]+$", it)}
+    lemmas = {it: snake(it) + "_lem" for it in ours if "-" in it and snake(it) in functions and it not in of_records}
 
     def turned(word, before, goals):
         if word.startswith('"'):
