@@ -7,8 +7,8 @@ use std::path::{Path, PathBuf};
 use std::process::Command;
 use std::{env, process};
 
-/// The crate whose static library is linked. The name of its file follows from this: the bench has it nowhere else.
-const CRATE: &str = "pugdrel";
+/// The library that is linked. The name of its file follows from this: the bench has it nowhere else.
+const LIBRARY: &str = "pugdrel";
 
 const VARIABLE: &str = "PUGDREL_LIB";
 
@@ -109,9 +109,9 @@ fn library_path() -> PathBuf {
     }
 }
 
-/// The file that the toolchain writes, from the root of the repository.
+/// The file that `tools/build staticlib` writes, from the root of the repository.
 fn written() -> String {
-    format!("target/staticlib/lib{CRATE}.a")
+    format!("target/staticlib/lib{LIBRARY}.a")
 }
 
 /// `some` of `/some/where/libsome.a`.
@@ -125,7 +125,7 @@ fn link_name(library: &Path) -> Option<&str> {
 
 fn stop(why: &str) -> ! {
     eprintln!("The static library of the decoder is missing: {why}.");
-    eprintln!("Make it with 'rt staticlib {CRATE}' in the root of the repository, which writes");
+    eprintln!("Make it with 'tools/build staticlib' in the root of the repository, which writes");
     eprintln!(
         "{}, or name another one: {VARIABLE}=/path/to/libNAME.a",
         written()

@@ -6,13 +6,13 @@
  * which a recorder keeps a sheet.
  * The library is written in Rattle: the source of every function below is proved to return, to touch no memory but what it is
  * lent, and to give exactly what its contract says, for every input. The contract of a function stands at its source in
- * crates/pugdrel/src; the promise that it names is in crates/pugdrel/specs, or, of pugdrel_encode, pugdrel_extract,
+ * crates/pugdrel_c/src/lib.rt; the promise that it names is in crates/pugdrel/specs, or, of pugdrel_encode, pugdrel_extract,
  * pugdrel_write_blocks and pugdrel_load, in the crate of the entry: array, blocks or load. Not proved are the compiler's back end and
  * this header, which repeats the types of the source by hand; examples/c checks every call.
  *
  * Build and link, from the root of the repository, on x86-64 Linux:
  *
- *     rt staticlib pugdrel
+ *     tools/build staticlib
  *     cc -Iinclude examples/c/decode.c target/staticlib/libpugdrel.a -o target/decode && target/decode
  *     cc -Iinclude examples/c/blocks.c target/staticlib/libpugdrel.a -o target/blocks && target/blocks
  *     cc -Iinclude examples/c/load.c target/staticlib/libpugdrel.a -o target/load && target/load

@@ -1,5 +1,5 @@
 /* Reads the recording of a damaged sheet, mends it and writes it again, and calls the reader and the writer of the recorder's files
- * with results that are known. Build and run, from the root of the repository, after `rt staticlib pugdrel`:
+ * with results that are known. Build and run, from the root of the repository, after `tools/build staticlib`:
  *
  *     cc -Iinclude examples/c/blocks.c target/staticlib/libpugdrel.a -o target/blocks && target/blocks
  *

@@ -1,6 +1,6 @@
 /* Sends messages through a bad channel and back, and calls every function of the library with a result that is known, but for the
  * reader and the writer of the recorder's files, which blocks.c has. load.c has more of the loads that the channel here is made of.
- * Build and run, from the root of the repository, after `rt staticlib pugdrel`:
+ * Build and run, from the root of the repository, after `tools/build staticlib`:
  *
  *     cc -Iinclude examples/c/decode.c target/staticlib/libpugdrel.a -o target/decode && target/decode
  *

@@ -1,6 +1,6 @@
 /* The acceptance run: sheets from seeds, loaded and mended, with numbers that are the same wherever it is made. And loads of single
  * sheets with results that are known, and each refusal of one.
- * Build and run, from the root of the repository, after `rt staticlib pugdrel`:
+ * Build and run, from the root of the repository, after `tools/build staticlib`:
  *
  *     cc -Iinclude examples/c/load.c target/staticlib/libpugdrel.a -o target/load && target/load
  *
