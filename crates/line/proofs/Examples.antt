@@ -1,4 +1,4 @@
--- The small lines of document 01, degree 4, as one table: P1 to P9 are decoded, P10 to p14 give messages and counts.
+-- The small lines of document 01, degree 4, as one table: P1 to P9 are decoded, P10 to P14 give messages and counts.
 -- Assumes nothing.
 use mathlib.Core.Path.{◌≡◌, refl, sym, ap, ◌∙◌}
 use mathlib.Core.Bool.{Bool, true, false, cond}
@@ -52,7 +52,7 @@ p7 = line (0 ∷ 4 ∷ []) (6 ∷ 7 ∷ [])
 abbrev pub p14 : List ℕ
 p14 = line (4 ∷ 6 ∷ 7 ∷ 8 ∷ 15 ∷ []) (0 ∷ 1 ∷ 2 ∷ 3 ∷ 5 ∷ 9 ∷ [])
 
--- P1 to p14, in their order
+-- P1 to P14, in their order
 abbrev rows : List Row
 rows =
     Decodes zeros 0 (Found zeros)
@@ -117,7 +117,7 @@ rows_quick = refl
 pub table : map computed rows ≡ rows
 table = computed_quick rows ∙ rows_quick
 
--- ---- the messages of p7 and P8, where the channel has the incoming line
+-- ---- the messages of P7 and P8, where the channel has the incoming line
 
 -- the messages are then what the line is decoded to
 messages_same : (dec : List ℕ → Answer) (y : List ℕ) (f : ℕ) (c : List ℕ) → decode dec y f ≡ Found c → length c ≡ length y → messages dec y y f ≡ c

@@ -58,7 +58,7 @@ LineTells y f n left = (after : List ℕ) (r : LineAnswer) → DecodeLineDone 4 
 abbrev p6 : List ℕ
 p6 = line [] (0 ∷ 4 ∷ 6 ∷ 7 ∷ 8 ∷ 15 ∷ [])
 
--- p4, p3 and p6; p7, P8 and P9, where the filling decides; a cell 3; a cell too many, alone and with cells 3
+-- P4, P3 and P6; P7, P8 and P9, where the filling decides; a cell 3; a cell too many, alone and with cells 3
 pub line_numbers_lem :
     LineTells p4 0 (0, true) zeros
     × LineTells p3 0 (0, false) p3
@@ -93,7 +93,7 @@ messages_numbers_lem = (messages_told, messages_told, messages_told, messages_to
 abbrev MessagesLeave : (incoming channel : List ℕ) (filling : ℕ) (left : List ℕ) → Type 0
 MessagesLeave y r f left = (after : List ℕ) (a : MessagesAnswer) → MessagesDone 4 y r f (replicate 16 9) [] after a → after ≡ left
 
--- p7 and P8 from the same channel line, where the filling decides; a refused call leaves what stood in the place for the messages
+-- P7 and P8 from the same channel line, where the filling decides; a refused call leaves what stood in the place for the messages
 pub messages_left :
     MessagesLeave p7 p7 0 zeros
     × MessagesLeave p7 p7 (2 ^ 6 + 2 ^ 7) word_g

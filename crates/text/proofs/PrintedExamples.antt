@@ -109,7 +109,7 @@ taken = (refl, refl)
 pub whole_example : printed input ≡ output
 whole_example = printed_zeros input received taken received_array lines_read decoded all_counted
 
--- ---- "with zero filling": sixteen lines 100010??00000000, document 01's p7, which filling bits of 0 lead to zeros and those of 1 to word_g
+-- ---- "with zero filling": sixteen lines 100010??00000000, document 01's P7, which filling bits of 0 lead to zeros and those of 1 to word_g
 
 abbrev pub tied_input : List ℕ
 tied_input = 52 ∷ 10 ∷ lines (λ i. 49 ∷ 48 ∷ 48 ∷ 48 ∷ 49 ∷ 48 ∷ 63 ∷ 63 ∷ (replicate 8 48 ++ (10 ∷ []))) 16
