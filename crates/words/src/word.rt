@@ -51,8 +51,9 @@ fn high_of(a: Word) -> u64
 
 // ---- a word that is lent
 
-// A word laid down as an array. A struct can't be lent, and one that is handed by value to a function that is not compiled into its
-// caller is copied whole, which waits until both of its numbers are stored; what is lent here is read number by number.
+// A word laid down as an array. In the Rattle that this was written for a struct can't be lent, and one that is handed by value to a
+// function that is not compiled into its caller is copied whole, which waits until both of its numbers are stored; what is lent here
+// is read number by number.
 pub type LentWord = [u64; 2];
 
 pub fn to_lend(word: Word) -> LentWord
