@@ -11,7 +11,7 @@ use lib.ListN.{length, take, drop, get_or, length-append, length-drop, get_or-eq
 use lib.Seq.{get_or-take, get_or-drop, length-take-le, ext_get_or, drop_at, take_all, drop-append-le, take-append-le}
 use Rattle.line.specs.Cells.{cell, Cells}
 use Rattle.array.specs.Arrays.{line, lines, transpose}
-use Rattle.line.proofs.LineLaw.{list_to_length_lem, list_to_cell_lem}
+use Rattle.line.proofs.LineLaw.{list_to_length, list_to_cell}
 
 -- what holds of each line
 abbrev pub Each : (List ℕ → Type 0) → ℕ → ℕ → List ℕ → Type 0
@@ -65,14 +65,14 @@ lines_ext k n x y lx ly h =
 
 pub length_transpose : (r c : ℕ) (m : List ℕ) → length (transpose r c m) ≡ c * r
 unfolding transpose
-length_transpose r c m = list_to_length_lem _ (c * r)
+length_transpose r c m = list_to_length _ (c * r)
 
 pub transpose_at : (r c : ℕ) (m : List ℕ) (a b : ℕ) → a < c → b < r → get_or (transpose r c m) (a * r + b) 0 ≡ get_or m (b * c + a) 0
 unfolding transpose
 transpose_at r c m a b p q =
     let e : (a * r + b) % r ≡ b = mul-add-mod_self_right a r b ∙ mod-eq_of_lt q in
     let d : (a * r + b) / r ≡ a = mul-add-div_right (omega arith) a b ∙ ap (λ (x : ℕ). a + x) (div-eq_of_lt q) ∙ add-zero a in
-    list_to_cell_lem (λ p. get_or m (p % r * c + p / r) 0) (c * r) (a * r + b) (cell_room c r a b p q) ∙ rw (e, d)
+    list_to_cell (λ p. get_or m (p % r * c + p / r) 0) (c * r) (a * r + b) (cell_room c r a b p q) ∙ rw (e, d)
 
 pub transpose_transpose : (r c : ℕ) (m : List ℕ) → length m ≡ r * c → transpose c r (transpose r c m) ≡ m
 transpose_transpose r c m l =

@@ -22,7 +22,7 @@ use Rattle.line.specs.Working.Packed.{IsLine, is_one, pack_by, Packs}
 use Rattle.line.specs.Cells.{is_erased}
 use Rattle.line.specs.declared.packed.Line.{Line}
 use Rattle.words.specs.Working.Word.{value, width}
-use Rattle.line.proofs.PackBits.{pack_by_lt_lem}
+use Rattle.line.proofs.PackBits.{pack_by_lt}
 use Rattle.line.proofs.RowLaws.{size_room, size_eights}
 use Rattle.words.specs.Working.Grid.{grid_size, word_in, word_put, Small, Within, GridTurned}
 use Rattle.words.proofs.GridLaws.{put_long, put_same, put_other, put_small, word_small, word_stands, zeros_word}
@@ -164,7 +164,7 @@ held_line rows i l e f n m k h =
 
 -- a packed line fits a word
 pack_fits : {n : ℕ} {v : ℕ} (p : ℕ → Bool) (cs : List ℕ) → length cs ≡ n → n ≤ width → v ≡ pack_by p cs → v < 2 ^ width
-pack_fits p cs l few e = rw e (lt_of_lt_of_le (pack_by_lt_lem p cs) (pow_mono {i = length cs} {j = width} (omega arith)))
+pack_fits p cs l few e = rw e (lt_of_lt_of_le (pack_by_lt p cs) (pow_mono {i = length cs} {j = width} (omega arith)))
 
 -- the words of line i made those of l
 pub held_put : (rows : List ℕ) (i : ℕ) (l : Line) → i < width → LinePut rows i l (word_put (word_put rows 0 i (value l.ones)) grid_size i (value l.erased))
@@ -202,16 +202,16 @@ held_put rows i l few n m y k h p = record {
 
 -- ---- transposed
 
-pack_by_none_lem : (p : ℕ → Bool) → p 0 ≡ false → (xs : List ℕ) → ((i : ℕ) → get_or xs i 0 ≡ 0) → pack_by p xs ≡ 0
+pack_by_none : (p : ℕ → Bool) → p 0 ≡ false → (xs : List ℕ) → ((i : ℕ) → get_or xs i 0 ≡ 0) → pack_by p xs ≡ 0
 unfolding pack_by
-pack_by_none_lem p z [] h = refl
-pack_by_none_lem p z (x ∷ xs) h = ap₂ (λ (w : ℕ) (b : Bool). w * 2 + bit b) (pack_by_none_lem p z xs (λ i. h (suc i))) (ap p (h 0) ∙ z)
+pack_by_none p z [] h = refl
+pack_by_none p z (x ∷ xs) h = ap₂ (λ (w : ℕ) (b : Bool). w * 2 + bit b) (pack_by_none p z xs (λ i. h (suc i))) (ap p (h 0) ∙ z)
 
 -- the words of an array's lines have no bits past its n by n cells
 held_within : (p : ℕ → Bool) → p 0 ≡ false → (n base : ℕ) (m rows : List ℕ) → length m ≡ n * n → RowWords p n m (λ i. word_in rows base i) → Within n base rows
 held_within p z n base m rows l w = record {
-  short = λ i h. rw (w i h) (lt_of_lt_of_le (pack_by_lt_lem p (line n m i)) (pow_mono {i = length (line n m i)} {j = n} (length_line_le n m i)));
-  none = λ i h q. w i q ∙ pack_by_none_lem p z (line n m i) (λ j. line_past n m l i j h);
+  short = λ i h. rw (w i h) (lt_of_lt_of_le (pack_by_lt p (line n m i)) (pow_mono {i = length (line n m i)} {j = n} (length_line_le n m i)));
+  none = λ i h q. w i q ∙ pack_by_none p z (line n m i) (λ j. line_past n m l i j h);
 }
 
 -- both grids transposed hold the transposed array
@@ -257,7 +257,7 @@ blank_held n few = record {
 }
   where
     none : (p : ℕ → Bool) → p 0 ≡ false → (i : ℕ) → pack_by p (line n (blank n) i) ≡ 0
-    none p z i = pack_by_none_lem p z (line n (blank n) i) (λ j. omega (arith, line_small 1 n (blank n) i (λ q. rw (zeros_at (n * n) q) (omega arith)) j))
+    none p z i = pack_by_none p z (line n (blank n) i) (λ j. omega (arith, line_small 1 n (blank n) i (λ q. rw (zeros_at (n * n) q) (omega arith)) j))
 
 -- the first i rows are packed; the words after them are 0
 pub record Packing (n : ℕ) (m rows : List ℕ) (i at : ℕ) : Type 0 where

@@ -15,7 +15,7 @@ use Rattle.laws.specs.Bits.{bit}
 use Rattle.laws.specs.Working.Bits.{bit_at}
 use Rattle.words.specs.Working.Word.{width}
 use Rattle.line.specs.Working.Packed.{pack_by}
-use Rattle.line.proofs.PackBits.{pack_by_lt_lem, pack_by_bit_lem}
+use Rattle.line.proofs.PackBits.{pack_by_lt, pack_by_bit}
 use Rattle.array.specs.Arrays.{line, transpose}
 use Rattle.array.specs.Working.PackedRows.{RowWords}
 use Rattle.array.proofs.ArrayLaws.{line_at, length_transpose, transpose_at}
@@ -50,10 +50,10 @@ pub words_turned : (p : ℕ → Bool) (n : ℕ) (m : List ℕ) (before after : �
     → ((i : ℕ) → i < width → after i < 2 ^ width) → ((i j : ℕ) → i < width → j < width → bit_at (after i) j ≡ bit_at (before j) i)
     → RowWords p n (transpose n n m) after
 words_turned p n m before after z few l w small turned i h =
-    bits_ext width (after i) (pack_by p column) (small i h) (lt_of_lt_of_le (pack_by_lt_lem p column) (pow_mono fits))
+    bits_ext width (after i) (pack_by p column) (small i h) (lt_of_lt_of_le (pack_by_lt p column) (pow_mono fits))
     (λ j k.
-    turned i j h k ∙ ap (λ (x : ℕ). bit_at x i) (w j k) ∙ pack_by_bit_lem p z (line n m j) i
-    ∙ ap (λ (x : ℕ). bit (p x)) (column_cell n m l i j) ∙ sym (pack_by_bit_lem p z column j))
+    turned i j h k ∙ ap (λ (x : ℕ). bit_at x i) (w j k) ∙ pack_by_bit p z (line n m j) i
+    ∙ ap (λ (x : ℕ). bit (p x)) (column_cell n m l i j) ∙ sym (pack_by_bit p z column j))
   where
     column : List ℕ
     column = line n (transpose n n m) i

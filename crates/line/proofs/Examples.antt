@@ -17,7 +17,7 @@ use Rattle.line.specs.Bounded.{Answer, Found, Failed, or_back, itself, one_flipp
 use Rattle.line.specs.Decoding.{list_to, decode, decoded, message, messages}
 use Rattle.laws.specs.Sums.{sum_to}
 use Rattle.line.specs.Clauses.{reach, same, agrees, by_reach, clause, count}
-use Rattle.line.proofs.LineLaw.{equal_message, list_to_is_lem, list_to_length_lem, list_to_cell_lem}
+use Rattle.line.proofs.LineLaw.{equal_message, list_to_is, list_to_length, list_to_cell}
 
 -- x at the cells listed, else as in l
 abbrev put : ℕ → List ℕ → List ℕ → List ℕ
@@ -94,9 +94,9 @@ module _ (dec : List ℕ → Answer) (y r : List ℕ) (f : ℕ) where
   messages_short : messages dec y r f ≡ list_to (short (decoded dec y f)) (length y)
   unfolding messages
   messages_short =
-      list_to_is_lem (message dec y r f) (length y) (list_to (short (decoded dec y f)) (length y))
-      (list_to_length_lem (short (decoded dec y f)) (length y))
-      (λ k h. message_short k ∙ sym (list_to_cell_lem (short (decoded dec y f)) (length y) k h))
+      list_to_is (message dec y r f) (length y) (list_to (short (decoded dec y f)) (length y))
+      (list_to_length (short (decoded dec y f)) (length y))
+      (λ k h. message_short k ∙ sym (list_to_cell (short (decoded dec y f)) (length y) k h))
 
 -- a row computed so
 abbrev quick : Row → Row
@@ -123,7 +123,7 @@ table = computed_quick rows ∙ rows_quick
 messages_same : (dec : List ℕ → Answer) (y : List ℕ) (f : ℕ) (c : List ℕ) → decode dec y f ≡ Found c → length c ≡ length y → messages dec y y f ≡ c
 unfolding messages
 messages_same dec y f c e l =
-    list_to_is_lem (message dec y y f) (length y) c l (λ k h. equal_message dec y y f k refl ∙ ap (λ (a : Answer). cell (or_back y a) k) e)
+    list_to_is (message dec y y f) (length y) c l (λ k h. equal_message dec y y f k refl ∙ ap (λ (a : Answer). cell (or_back y a) k) e)
 
 -- what row i of the table is decoded to
 abbrev answer : ℕ → List Row → Answer

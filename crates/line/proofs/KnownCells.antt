@@ -15,8 +15,8 @@ use Rattle.words.specs.Working.Word.{value}
 use Rattle.line.specs.declared.packed.Line.{Line}
 use Rattle.line.specs.Cells.{Cells, cell, is_erased}
 use Rattle.line.specs.Working.Packed.{is_one, pack_by, Packs, known_else}
-use Rattle.line.proofs.LineLaw.{list_to_cell_lem, list_to_cells_lem}
-use Rattle.line.proofs.PackBits.{pack_by_lt_lem, pack_by_bit_lem, cell_ind}
+use Rattle.line.proofs.LineLaw.{list_to_cell, list_to_cells}
+use Rattle.line.proofs.PackBits.{pack_by_lt, pack_by_bit, cell_ind}
 use Rattle.line.proofs.Packing.{one_at, erased_at, ones_lt, erased_lt}
 
 -- ---- cell by cell
@@ -24,7 +24,7 @@ use Rattle.line.proofs.Packing.{one_at, erased_at, ones_lt, erased_lt}
 module _ (cs es : List ℕ) (k : ℕ) (h : k < length cs) where
   pub known_cell : cell (known_else cs es) k ≡ cond (is_erased (cell cs k)) (cell es k) (cell cs k)
   unfolding known_else
-  known_cell = list_to_cell_lem (λ i. cond (is_erased (cell cs i)) (cell es i) (cell cs i)) (length cs) k h
+  known_cell = list_to_cell (λ i. cond (is_erased (cell cs i)) (cell es i) (cell cs i)) (length cs) k h
 
   -- where both lines have one cell, it is that
   pub known_equal : cell es k ≡ cell cs k → cell (known_else cs es) k ≡ cell es k
@@ -60,7 +60,7 @@ module _ {n : ℕ} {cs es : List ℕ} {a b : Line} (p : Packs n cs a) (q : Packs
   unfolding known_else
   known_cells =
       rw (← p.cells.long)
-      (list_to_cells_lem (λ i. cond (is_erased (cell cs i)) (cell es i) (cell cs i)) (length cs) (omega arith) (λ k h. go (is_erased (cell cs k)) (p.cells.small k) (q.cells.small k)))
+      (list_to_cells (λ i. cond (is_erased (cell cs i)) (cell es i) (cell cs i)) (length cs) (omega arith) (λ k h. go (is_erased (cell cs k)) (p.cells.small k) (q.cells.small k)))
     where
       go : (t : Bool) {c e : ℕ} → c < 3 → e < 3 → cond t e c < 3
       go true hc he = he
@@ -69,8 +69,8 @@ module _ {n : ℕ} {cs es : List ℕ} {a b : Line} (p : Packs n cs a) (q : Packs
   -- a number whose bits are those of the cells
   by_bits : (test : ℕ → Bool) → test 0 ≡ false → (v : ℕ) → v < 2 ^ n → ((k : ℕ) → bit_at v k ≡ bit (test (cond (is_erased (cell cs k)) (cell es k) (cell cs k)))) → v ≡ pack_by test (known_else cs es)
   by_bits test z v l h =
-      bits_ext n v (pack_by test (known_else cs es)) l (rw (← known_cells.long) (pack_by_lt_lem test (known_else cs es)))
-      (λ k hk. h k ∙ ap (λ (c : ℕ). bit (test c)) (sym (known_cell cs es k (rw p.cells.long hk))) ∙ sym (pack_by_bit_lem test z (known_else cs es) k))
+      bits_ext n v (pack_by test (known_else cs es)) l (rw (← known_cells.long) (pack_by_lt test (known_else cs es)))
+      (λ k hk. h k ∙ ap (λ (c : ℕ). bit (test c)) (sym (known_cell cs es k (rw p.cells.long hk))) ∙ sym (pack_by_bit test z (known_else cs es) k))
 
   pub known_packed : {o e : Word} → value o ≡ bit_or (value a.ones) (bit_and (value a.erased) (value b.ones)) → value e ≡ bit_and (value a.erased) (value b.erased)
       → Packs n (known_else cs es) (record { ones = o; erased = e })

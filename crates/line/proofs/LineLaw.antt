@@ -53,31 +53,31 @@ filled_sum (y ∷ ys) (c ∷ cs) f hy hc e =
 -- ---- lists by their cells
 
 -- a list g 0, g 1, .. that agrees with c at each cell is c
-pub list_to_is_lem : (g : ℕ → ℕ) (n : ℕ) (c : List ℕ) → length c ≡ n → ((k : ℕ) → k < n → g k ≡ cell c k) → list_to g n ≡ c
+pub list_to_is : (g : ℕ → ℕ) (n : ℕ) (c : List ℕ) → length c ≡ n → ((k : ℕ) → k < n → g k ≡ cell c k) → list_to g n ≡ c
 unfolding list_to
-list_to_is_lem g zero [] e h = refl
-list_to_is_lem g zero (c ∷ cs) e h = absurd (omega arith)
-list_to_is_lem g (suc n) [] e h = absurd (omega arith)
-list_to_is_lem g (suc n) (c ∷ cs) e h =
-    ap₂ (λ (x : ℕ) (l : List ℕ). x ∷ l) (h 0 (zero-lt-suc n)) (list_to_is_lem (λ k. g (suc k)) n cs (suc_inj e) (λ k l. h (suc k) (suc-le-suc l)))
+list_to_is g zero [] e h = refl
+list_to_is g zero (c ∷ cs) e h = absurd (omega arith)
+list_to_is g (suc n) [] e h = absurd (omega arith)
+list_to_is g (suc n) (c ∷ cs) e h =
+    ap₂ (λ (x : ℕ) (l : List ℕ). x ∷ l) (h 0 (zero-lt-suc n)) (list_to_is (λ k. g (suc k)) n cs (suc_inj e) (λ k l. h (suc k) (suc-le-suc l)))
 
 -- it has n cells
-pub list_to_length_lem : (g : ℕ → ℕ) (n : ℕ) → length (list_to g n) ≡ n
+pub list_to_length : (g : ℕ → ℕ) (n : ℕ) → length (list_to g n) ≡ n
 unfolding list_to
-list_to_length_lem g zero = refl
-list_to_length_lem g (suc n) = ap suc (list_to_length_lem (λ k. g (suc k)) n)
+list_to_length g zero = refl
+list_to_length g (suc n) = ap suc (list_to_length (λ k. g (suc k)) n)
 
 -- its cell k is g k
-pub list_to_cell_lem : (g : ℕ → ℕ) (n k : ℕ) → k < n → cell (list_to g n) k ≡ g k
+pub list_to_cell : (g : ℕ → ℕ) (n k : ℕ) → k < n → cell (list_to g n) k ≡ g k
 unfolding list_to
-list_to_cell_lem g zero k h = absurd (not-suc-le-zero h)
-list_to_cell_lem g (suc n) zero h = refl
-list_to_cell_lem g (suc n) (suc k) h = list_to_cell_lem (λ k. g (suc k)) n k (le_of_suc-le-suc h)
+list_to_cell g zero k h = absurd (not-suc-le-zero h)
+list_to_cell g (suc n) zero h = refl
+list_to_cell g (suc n) (suc k) h = list_to_cell (λ k. g (suc k)) n k (le_of_suc-le-suc h)
 
 -- a list of numbers below a bound
-pub list_to_cells_lem : {b : ℕ} (g : ℕ → ℕ) (n : ℕ) → 0 < b → ((k : ℕ) → k < n → g k < b) → Cells b n (list_to g n)
+pub list_to_cells : {b : ℕ} (g : ℕ → ℕ) (n : ℕ) → 0 < b → ((k : ℕ) → k < n → g k < b) → Cells b n (list_to g n)
 unfolding list_to
-list_to_cells_lem {b} g n z h = record { long = list_to_length_lem g n; small = λ i. go g n i h }
+list_to_cells {b} g n z h = record { long = list_to_length g n; small = λ i. go g n i h }
   where
     go : (g : ℕ → ℕ) (n i : ℕ) → ((k : ℕ) → k < n → g k < b) → cell (list_to g n) i < b
     go g zero i h = z
@@ -166,7 +166,7 @@ module _ (d : Degree) where
   pub messages_line : {y r : List ℕ} (f : ℕ) → IsLine (size d) y → IsLine (size d) r → IsLine (size d) (messages (bounded d) y r f)
   unfolding messages message
   messages_line {y} {r} f ly lr =
-      rw ly.long (list_to_cells_lem (message (bounded d) y r f) (size d) (omega arith) (λ k h. (decoded_line f (set_cells k (cell r k) (lr.small k) ly)).small k))
+      rw ly.long (list_to_cells (message (bounded d) y r f) (size d) (omega arith) (λ k h. (decoded_line f (set_cells k (cell r k) (lr.small k) ly)).small k))
 
   -- the message of a codeword is the codeword's cell, whatever the channel's line is
   pub codeword_message : {c r : List ℕ} (f k : ℕ) → Codeword d c → IsLine (size d) r → k < size d → message (bounded d) c r f k ≡ cell c k
@@ -182,7 +182,7 @@ module _ (d : Degree) where
   pub codeword_messages : {c r : List ℕ} (f : ℕ) → Codeword d c → IsLine (size d) r → messages (bounded d) c r f ≡ c
   unfolding messages
   codeword_messages {c} {r} f p lr =
-      list_to_is_lem (message (bounded d) c r f) (length c) c refl (λ k h. codeword_message f k p lr (rw (D.word p).long at h))
+      list_to_is (message (bounded d) c r f) (length c) c refl (λ k h. codeword_message f k p lr (rw (D.word p).long at h))
 
   -- the message of a received line that the line law covers, with the same line as channel, is the sent codeword's cell
   pub received_message : {r c : List ℕ} (f k : ℕ) → IsLine (size d) r → Codeword d c → 2 * distance r c + erasures r < designed_distance
@@ -193,4 +193,4 @@ module _ (d : Degree) where
   pub received_messages : {r c : List ℕ} (f : ℕ) → IsLine (size d) r → Codeword d c → 2 * distance r c + erasures r < designed_distance → messages (bounded d) r r f ≡ c
   unfolding messages
   received_messages {r} {c} f l p h =
-      list_to_is_lem (message (bounded d) r r f) (length r) c ((D.word p).long ∙ sym l.long) (λ k q. received_message f k l p h)
+      list_to_is (message (bounded d) r r f) (length r) c ((D.word p).long ∙ sym l.long) (λ k q. received_message f k l p h)

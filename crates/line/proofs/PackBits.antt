@@ -22,24 +22,24 @@ use Rattle.line.specs.Working.Packed.{is_one, pack_by}
 -- ---- the word that packs a list
 
 module _ (p : ℕ → Bool) where
-  pub pack_by_lt_lem : (xs : List ℕ) → pack_by p xs < 2 ^ length xs
+  pub pack_by_lt : (xs : List ℕ) → pack_by p xs < 2 ^ length xs
   unfolding pack_by
-  pack_by_lt_lem [] = omega arith
-  pack_by_lt_lem (x ∷ xs) = rw (pow-suc 2 (length xs)) (omega (arith, pack_by_lt_lem xs, bit_lt (p x)))
+  pack_by_lt [] = omega arith
+  pack_by_lt (x ∷ xs) = rw (pow-suc 2 (length xs)) (omega (arith, pack_by_lt xs, bit_lt (p x)))
 
   -- bit k, past the end too, by a test that 0 fails
-  pub pack_by_bit_lem : p 0 ≡ false → (xs : List ℕ) (k : ℕ) → pack_by p xs / 2 ^ k % 2 ≡ bit (p (cell xs k))
+  pub pack_by_bit : p 0 ≡ false → (xs : List ℕ) (k : ℕ) → pack_by p xs / 2 ^ k % 2 ≡ bit (p (cell xs k))
   unfolding pack_by
-  pack_by_bit_lem e [] k = rw (zero-div, e)
-  pack_by_bit_lem e (x ∷ xs) zero = rw div-one (low_bit (pack_by p xs) (p x))
-  pack_by_bit_lem e (x ∷ xs) (suc k) = rw (shift_more, half_bit (pack_by p xs) (p x)) (pack_by_bit_lem e xs k)
+  pack_by_bit e [] k = rw (zero-div, e)
+  pack_by_bit e (x ∷ xs) zero = rw div-one (low_bit (pack_by p xs) (p x))
+  pack_by_bit e (x ∷ xs) (suc k) = rw (shift_more, half_bit (pack_by p xs) (p x)) (pack_by_bit e xs k)
 
   -- cell k made c
-  pub pack_by_set_lem : (xs : List ℕ) (k c : ℕ) → k < length xs
+  pub pack_by_set : (xs : List ℕ) (k c : ℕ) → k < length xs
       → bit_xor (pack_by p xs) (bit (xorb (p (cell xs k)) (p c)) * 2 ^ k) ≡ pack_by p (set xs k c)
   unfolding pack_by
-  pack_by_set_lem [] k c h = absurd (not-suc-le-zero h)
-  pack_by_set_lem (x ∷ xs) zero c h =
+  pack_by_set [] k c h = absurd (not-suc-le-zero h)
+  pack_by_set (x ∷ xs) zero c h =
       ap (bit_xor (pack_by p xs * 2 + bit (p x))) (mul-one (bit (xorb (p x) (p c))) ∙ sym (zero-add (bit (xorb (p x) (p c)))))
       ∙ xor_bits (pack_by p xs) 0 (p x) (xorb (p x) (p c)) ∙ ap₂ (λ (a : ℕ) (b : Bool). a * 2 + bit b) (xor_zero_r (pack_by p xs)) (twice (p x) (p c))
     where
@@ -47,11 +47,11 @@ module _ (p : ℕ → Bool) where
       twice true true = refl
       twice true false = refl
       twice false b = refl
-  pack_by_set_lem (x ∷ xs) (suc k) c h =
+  pack_by_set (x ∷ xs) (suc k) c h =
       let d : Bool = xorb (p (cell xs k)) (p c) in
       ap (bit_xor (pack_by p xs * 2 + bit (p x))) (ap (λ (q : ℕ). bit d * q) (pow-suc 2 k) ∙ sym (mul_assoc (bit d) (2 ^ k) 2) ∙ sym (add-zero (bit d * 2 ^ k * 2)))
       ∙ xor_bits (pack_by p xs) (bit d * 2 ^ k) (p x) false
-      ∙ ap₂ (λ (a : ℕ) (b : Bool). a * 2 + bit b) (pack_by_set_lem xs k c (le_of_suc-le-suc h)) (flat (p x))
+      ∙ ap₂ (λ (a : ℕ) (b : Bool). a * 2 + bit b) (pack_by_set xs k c (le_of_suc-le-suc h)) (flat (p x))
     where
       flat : (a : Bool) → xorb a false ≡ a
       flat true = refl
@@ -123,7 +123,7 @@ ones_differing (suc m) (c ∷ cs) (w ∷ ws) e l s t =
     let x : ℕ = bit_xor (pack_by is_one ws) (pack_by is_one cs) in
     rw (
       xor_bits (pack_by is_one ws) (pack_by is_one cs) (is_one w) (is_one c),
-      not_bits m (pack_by is_erased cs) (is_erased c) (lt_of_lt_of_le (pack_by_lt_lem is_erased cs) (pow_mono (le_of_suc-le-suc l))),
+      not_bits m (pack_by is_erased cs) (is_erased c) (lt_of_lt_of_le (pack_by_lt is_erased cs) (pow_mono (le_of_suc-le-suc l))),
       and_bits x (2 ^ m - 1 - pack_by is_erased cs) (xorb (is_one w) (is_one c)) (not (is_erased c)),
       ones_bits (bit_and x (2 ^ m - 1 - pack_by is_erased cs)) (xorb (is_one w) (is_one c) && not (is_erased c)),
       differ_cell {c = c} {w = w} (s 0) (t 0),

@@ -23,14 +23,14 @@ use Rattle.words.specs.Working.Word.{value, width}
 use Rattle.line.specs.Cells.{cell, is_erased, erasures, distance, filled, flip}
 use Rattle.line.specs.Working.Packed.{is_one, pack_by, Packs, PacksWord}
 use Rattle.line.proofs.CellLaws.{set_cells, filled_word}
-use Rattle.line.proofs.PackBits.{Small, pack_by_lt_lem, pack_by_bit_lem, pack_by_set_lem, cell_ind, cell_of_lem, filled_first, filled_second, no_erased, ones_erased, ones_differing}
+use Rattle.line.proofs.PackBits.{Small, pack_by_lt, pack_by_bit, pack_by_set, cell_ind, cell_of_lem, filled_first, filled_second, no_erased, ones_erased, ones_differing}
 
 -- the bits of a packed line at cell k
 pub one_at : {n : ℕ} {cs : List ℕ} {l : Line} (k : ℕ) → Packs n cs l → value l.ones / 2 ^ k % 2 ≡ bit (is_one (cell cs k))
-one_at {cs} k p = rw p.ones (pack_by_bit_lem is_one refl cs k)
+one_at {cs} k p = rw p.ones (pack_by_bit is_one refl cs k)
 
 pub erased_at : {n : ℕ} {cs : List ℕ} {l : Line} (k : ℕ) → Packs n cs l → value l.erased / 2 ^ k % 2 ≡ bit (is_erased (cell cs k))
-erased_at {cs} k p = rw p.erased (pack_by_bit_lem is_erased refl cs k)
+erased_at {cs} k p = rw p.erased (pack_by_bit is_erased refl cs k)
 
 -- where its erased bit is not set, a cell is known
 pub known_at : {n : ℕ} {cs : List ℕ} {l : Line} (k : ℕ) → Packs n cs l → value l.erased / 2 ^ k % 2 ≡ 0 → is_erased (cell cs k) ≡ false
@@ -46,11 +46,11 @@ cell_of_line k p = rw (one_at k p, erased_at k p) (cell_of_lem (p.cells.small k)
 
 -- cell k of a packed word
 pub bit_of_word : {n : ℕ} {ws : List ℕ} {w : ℕ} (k : ℕ) → PacksWord n ws w → w / 2 ^ k % 2 ≡ cell ws k
-bit_of_word {ws} k p = rw (p.ones, pack_by_bit_lem is_one refl ws k) (bit_one (p.cells.small k))
+bit_of_word {ws} k p = rw (p.ones, pack_by_bit is_one refl ws k) (bit_one (p.cells.small k))
 
 put_by : (p : ℕ → Bool) → p 0 ≡ false → (cs : List ℕ) (w k c x : ℕ) → w ≡ pack_by p cs → k < length cs → x ≡ bit (p c)
     → bit_xor w (bit_xor (w / 2 ^ k % 2) x * 2 ^ k) ≡ pack_by p (set cs k c)
-put_by p z cs w k c x e h g = rw (e, g, pack_by_bit_lem p z cs k, xor_bit (p (cell cs k)) (p c)) (pack_by_set_lem p cs k c h)
+put_by p z cs w k c x e h g = rw (e, g, pack_by_bit p z cs k, xor_bit (p (cell cs k)) (p c)) (pack_by_set p cs k c h)
 
 -- a cell put in a packed line
 pub put_cell : {n : ℕ} {cs : List ℕ} {l : Line} (k c : ℕ) → Packs n cs l → k < n → c < 3
@@ -74,10 +74,10 @@ filled_two {cs} f p =
 
 -- the words of a line of n cells are below 2^n
 pub ones_lt : {n : ℕ} {cs : List ℕ} {l : Line} → Packs n cs l → value l.ones < 2 ^ n
-ones_lt {n} {cs} p = rw (p.ones, ← p.cells.long) (pack_by_lt_lem is_one cs)
+ones_lt {n} {cs} p = rw (p.ones, ← p.cells.long) (pack_by_lt is_one cs)
 
 pub erased_lt : {n : ℕ} {cs : List ℕ} {l : Line} → Packs n cs l → value l.erased < 2 ^ n
-erased_lt {n} {cs} p = rw (p.erased, ← p.cells.long) (pack_by_lt_lem is_erased cs)
+erased_lt {n} {cs} p = rw (p.erased, ← p.cells.long) (pack_by_lt is_erased cs)
 
 -- a word that packs cells by another name
 pub packed_as : {n : ℕ} {ws : List ℕ} {v w : ℕ} → v ≡ w → PacksWord n ws w → PacksWord n ws v
@@ -146,7 +146,7 @@ flip_packed {n} {ws} {v} {w} {x} k b e p h = go x b e h
         record {
           room = p.room;
           cells = set_cells k (1 - cell ws k) (omega arith) p.cells;
-          ones = e ∙ ap₂ bit_xor p.ones (ap (λ (b : Bool). bit b * 2 ^ k) (sym turned)) ∙ pack_by_set_lem is_one ws k (1 - cell ws k) m;
+          ones = e ∙ ap₂ bit_xor p.ones (ap (λ (b : Bool). bit b * 2 ^ k) (sym turned)) ∙ pack_by_set is_one ws k (1 - cell ws k) m;
         }
     go (suc (suc x)) b e h = absurd (omega arith)
 

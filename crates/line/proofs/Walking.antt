@@ -27,14 +27,14 @@ use Rattle.line.specs.Decoding.{list_to, message, messages}
 use Rattle.line.specs.Clauses.{cost, clause, count}
 use Rattle.line.specs.Working.Fillings.{Masks, start}
 use Rattle.words.specs.Working.Word.{width}
-use Rattle.line.proofs.LineLaw.{list_to_is_lem, list_to_cell_lem, messages_line}
+use Rattle.line.proofs.LineLaw.{list_to_is, list_to_cell, messages_line}
 
 -- a message is a cell
 module _ (d : Degree) where
   message_lt : {ys rs : List ℕ} (f k : ℕ) → k < size d → IsLine (size d) ys → IsLine (size d) rs → message (bounded d) ys rs f k < 3
   unfolding messages
   message_lt {ys} {rs} f k h ly lr =
-      rw (← list_to_cell_lem (message (bounded d) ys rs f) (size d) k h, ← ly.long) ((messages_line d f ly lr).small k)
+      rw (← list_to_cell (message (bounded d) ys rs f) (size d) k h, ← ly.long) ((messages_line d f ly lr).small k)
 
 -- ---- the walk
 
@@ -101,7 +101,7 @@ module _ (d : Degree) (ys rs : List ℕ) (f : ℕ) where
     walk_end {l} {c} W =
         let g : ℕ → ℕ = message (bounded d) ys rs f in
         let e : W.cells ≡ list_to g (length ys) =
-        rw p.cells.long (sym (list_to_is_lem g (size d) W.cells W.packs.cells.long (λ k h. sym (W.done k h (rw zero-div))))) in
+        rw p.cells.long (sym (list_to_is g (size d) W.cells W.packs.cells.long (λ k h. sym (W.done k h (rw zero-div))))) in
         (subst (λ (cs : List ℕ). Packs (size d) cs l) e W.packs, let z = mask_none costs (size d) in omega (arith, W.sum))
 
 -- ---- the mask as a word

@@ -101,7 +101,7 @@ old = replicate 256 7
 pub load_taken : (after : List ℕ) (n : ℕ) → Loaded 4 7 3 5 (blank 49) old after n
     → (n ≡ 0) × (distance after (encode_array Four (blank 49)) ≡ 3) × (erasures after ≡ 5)
 unfolding load_tests coding_tests at_most
-load_taken after n h = let hit = h.hit Four h.refusal refl in (h.refusal, hit.all_wrong, hit.all_unsure_lem)
+load_taken after n h = let hit = h.hit Four h.refusal refl in (h.refusal, hit.all_wrong, hit.all_unsure)
 
 -- of 256 places seed 7 has 187 first
 first_place : cell (order 256 7) 0 ≡ 187

@@ -5,7 +5,7 @@ use mathlib.Core.Logic.{dite}
 use native.Mathlib.Decide.{dec_lt}
 use Rattle.line.specs.Cells.{cell}
 use Rattle.line.specs.Decoding.{list_to}
-use Rattle.line.proofs.LineLaw.{list_to_is_lem}
+use Rattle.line.proofs.LineLaw.{list_to_is}
 
 -- the first i of n places are numbered
 pub record Numbered (n : ℕ) (places : List ℕ) (i : ℕ) : Type 0 where
@@ -21,4 +21,4 @@ numbered_next {n} {places} {i} c h = record {
 }
 
 pub numbered_end : {n : ℕ} {places : List ℕ} {i : ℕ} → Numbered n places i → length places ≤ i → places ≡ list_to (λ p. p) n
-numbered_end {n} {places} c h = sym (list_to_is_lem (λ p. p) n places c.long (λ k l. sym (c.done k (omega (arith, c.long)))))
+numbered_end {n} {places} c h = sym (list_to_is (λ p. p) n places c.long (λ k l. sym (c.done k (omega (arith, c.long)))))

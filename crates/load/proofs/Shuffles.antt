@@ -7,7 +7,7 @@ use Rattle.laws.specs.Bits.{bit}
 use Rattle.laws.proofs.Sums.{sum_none, sum_one}
 use Rattle.line.specs.Cells.{cell}
 use Rattle.line.specs.Decoding.{list_to}
-use Rattle.line.proofs.LineLaw.{list_to_length_lem}
+use Rattle.line.proofs.LineLaw.{list_to_length}
 use Rattle.load.specs.Load.{start, next, drawn, exchanged, shuffled, order}
 use Rattle.load.specs.Entries.{times, EachOnce}
 use Rattle.load.specs.Working.Within.{Within}
@@ -55,11 +55,11 @@ times_shuffled p (suc i) q l h =
 module _ (m seed : ℕ) (some : 0 < m) where
   pub order_length : length (order m seed) ≡ m
   unfolding order
-  order_length = length_shuffled (m - 1) (start seed) (list_to (λ p. p) m) ∙ list_to_length_lem (λ p. p) m
+  order_length = length_shuffled (m - 1) (start seed) (list_to (λ p. p) m) ∙ list_to_length (λ p. p) m
 
   order_times : (p : ℕ) → times p (order m seed) ≡ times p (list_to (λ p. p) m)
   unfolding order
-  order_times p = times_shuffled p (m - 1) (start seed) (list_to (λ p. p) m) (rw (list_to_length_lem (λ p. p) m) (omega arith))
+  order_times p = times_shuffled p (m - 1) (start seed) (list_to (λ p. p) m) (rw (list_to_length (λ p. p) m) (omega arith))
 
   pub order_once : EachOnce m (order m seed)
   order_once = record {

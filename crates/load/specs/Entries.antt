@@ -44,7 +44,7 @@ pub record Hit (d : Degree) (wrong unsure : ℕ) (places sheet after : List ℕ)
   pub erased : (i : ℕ) → wrong ≤ i → i < wrong + unsure → cell after (cell places i) ≡ 2
   pub own : (i : ℕ) → wrong + unsure ≤ i → i < size d * size d → cell after (cell places i) ≡ cell sheet (cell places i)
   pub all_wrong : distance after sheet ≡ wrong
-  pub all_unsure_lem : erasures after ≡ unsure
+  pub all_unsure : erasures after ≡ unsure
   pub row_wrong : (i : ℕ) → i < size d → distance (line (size d) after i) (line (size d) sheet i) ≡ in_row (size d) i (take wrong places)
   pub row_unsure : (i : ℕ) → i < size d → erasures (line (size d) after i) ≡ in_row (size d) i (take unsure (drop wrong places))
   -- so few that each row is as near to the sheet as decoding asks
