@@ -1,9 +1,10 @@
--- Numbers in decimal: how many digits, and one digit more at the front of those that are written.
+-- Numbers in decimal: how many digits, one digit more at the front of those that are written, and what std writes for a number.
 -- Assumes nothing.
-use Rattle.std.proofs.Common.{◌≡◌, ℕ, zero, suc, ◌+◌, ◌-◌, ◌*◌, ◌/◌, ◌%◌, ◌^◌, ◌<◌, ◌≤◌, List, ◌∷◌, ◌++◌, length, take, drop, set, sym, ap, subst, ◌∙◌, add-one, arith}
+use Rattle.std.proofs.Common.{◌≡◌, ℕ, zero, suc, ◌+◌, ◌-◌, ◌*◌, ◌/◌, ◌%◌, ◌^◌, ◌<◌, ◌≤◌, List, [], ◌∷◌, ◌++◌, length, take, drop, set, decimal, sym, ap, subst, ◌∙◌, add-one, arith}
 use Rattle.std.proofs.Math.Numerals.{sub-one}
 use Rattle.std.proofs.Math.Seq.{take-set-lt, append_snoc}
 use Rattle.std.proofs.lemmas.List.{drop-set, length-take-le}
+use Rattle.std.proofs.lemmas.Fmt.{decimal_digit, decimal_step}
 use Rattle.std.proofs.Math.Nat.{pow-suc, pow-le-pow_right, div-div-eq-div-mul, one-le-pow, le-div_iff_mul-le, div-lt_iff_lt-mul, le_of_suc-le-suc, not-suc-le-zero, lt_of_not-le}
 use Rattle.second.specs.Working.Sheets.{last_digits, IsDigitCount}
 
@@ -52,3 +53,17 @@ digits_next (suc j) many rest room some h within =
     ∙ ap (λ (l : List ℕ). front ++ drop j l) (take-set-lt many room j digit h)
     ∙ ap (λ (l : List ℕ). front ++ l) (drop-set cells j digit inside ∙ ap (λ (m : ℕ). digit ∷ drop m cells) (add-one j))
     ∙ sym (append_snoc front digit (drop (suc j) cells))
+
+-- the last digits of a number, as many as it has, are the number in decimal
+pub last_digits-decimal : (k number : ℕ) → IsDigitCount number k → number < 2 ^ 64 → last_digits k number ≡ decimal number
+last_digits-decimal zero number count fits = absurd (not-suc-le-zero count.0)
+last_digits-decimal (suc zero) number count fits =
+    let small : number < 10 = omega (arith, count.1) in
+    let alone : number % 10 ≡ number = omega arith in
+    ap (λ (d : ℕ). (48 + d) ∷ []) alone ∙ sym (decimal_digit number small)
+last_digits-decimal (suc (suc k)) number count fits =
+    let some : 1 ≤ 10 ^ k = one-le-pow k 10 (omega arith) in
+    let large : 10 ^ suc k ≤ number = subst (λ (j : ℕ). 10 ^ j ≤ number) (sub-one (suc (suc k))) (count.2 (omega arith)) in
+    let fewer : 10 ^ (suc k - 1) ≤ number / 10 = subst (λ (j : ℕ). 10 ^ j ≤ number / 10) (sym (sub-one (suc k))) (omega arith) in
+    let front : last_digits (suc k) (number / 10) ≡ decimal (number / 10) = last_digits-decimal (suc k) (number / 10) (omega arith, omega (arith, count.1), λ _. fewer) (omega arith) in
+    ap (λ (l : List ℕ). l ++ ((48 + number % 10) ∷ [])) front ∙ sym (decimal_step number (omega arith) fits)

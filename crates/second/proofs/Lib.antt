@@ -3,4 +3,5 @@ mod Places
 mod Noting
 pub mod Ranges
 mod Digits
+mod Parts
 mod Saying

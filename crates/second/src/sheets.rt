@@ -143,7 +143,7 @@ fn put_digits(number: u64, many: usize, digits: &mut [u8; 20])
 }
 
 // Puts the decimal digits of a number at the start of a room, and gives how many there are.
-fn decimal(number: u64, digits: &mut [u8; 20]) -> usize
+pub(crate) fn decimal(number: u64, digits: &mut [u8; 20]) -> usize
     ensures within { result ≤ 20 }
     ensures count { IsDigitCount number result }
     ensures digits { take result digits.new ≡ last_digits result number }

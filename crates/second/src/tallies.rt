@@ -2,14 +2,15 @@
 // their results; from place 4 on numbers of its own; from place 8 on how often each clause was met; and from place 17 on how often an
 // array was left almost closed: it fails one of the tests of closed alone. Counts wrap, so that nothing has to be known of them; none
 // comes near 2^64.
-ghost use Rattle.std.specs.Prelude.{◌≡◌, ◌<◌, ◌≤◌, true, length, ◌==◌, slice_index, IfOk, OnOk};
-ghost use Rattle.std.specs.Io.KnownBytes.{Appends};
+ghost use Rattle.std.specs.Prelude.{◌≡◌, ◌<◌, ◌≤◌, true, length, ◌==◌, slice_index, take, decimal, IfOk, OnOk, OnErr};
+ghost use Rattle.std.specs.Io.KnownBytes.{Appends, Keeps};
 ghost use Rattle.laws.specs.Sums.{sum_to};
 ghost use Rattle.second.specs.Working.Lines.{one_where, is_like};
-ghost use Rattle.second.specs.Working.Tallies.{mixed, next, ticked, said_byte, said_text};
+ghost use Rattle.second.specs.Working.Tallies.{mixed, next, ticked, AppendsPart, said_byte, said_text};
 
+use crate::sheets::decimal;
 use std::io;
-use std::io::Write;
+use std::io::{ErrorKind, Write};
 use std::num::wrapping_add_u64;
 
 pub type Totals = [u64; 32];
@@ -109,26 +110,71 @@ pub fn same(one: &[u8], other: &[u8]) -> bool
     all
 }
 
+// One write of at least one byte; gives how many were written. An interrupted write wrote none, and is no error, since it is tried again;
+// a stream that takes none of them without being interrupted is full.
+fn write_some<W: Write>(out: &mut W, bytes: &[u8]) -> io::Result<usize>
+    ensures within { IfOk result (λ n. n ≤ length bytes.now) }
+    ensures text { IfOk result (λ n. Appends (W.contents out.old) (W.contents out.new) (take n bytes.now)) }
+    ensures left { OnErr result (Keeps (W.contents out.old) (W.contents out.new)) }
+{
+    match out.write(bytes) {
+        Ok(0) => Err(io::Error::new(ErrorKind::WriteZero, "failed to write whole buffer")),
+        Ok(n) => Ok(n),
+        Err(e) if e.kind() == ErrorKind::Interrupted => Ok(0),
+        Err(e) => Err(e),
+    }
+}
+
+// Writes all the bytes, as write_all of std does. That promises nothing after an error; this promises that a part of their front is
+// written. Nothing says that a stream ever takes them, so the tries are counted.
+fn write_bytes<W: Write>(out: &mut W, bytes: &[u8]) -> io::Result<()>
+    ensures text { OnOk result (Appends (W.contents out.old) (W.contents out.new) bytes.now) }
+    ensures left { OnErr result (AppendsPart (W.contents out.old) (W.contents out.new) bytes.now) }
+{
+    let mut at = 0;
+    let mut tries = u64::MAX;
+    while at < bytes.len() && tries > 0 {
+        at += write_some(out, &bytes[at..])?;
+        tries -= 1;
+    }
+    if at < bytes.len() {
+        Err(io::Error::new(ErrorKind::TimedOut, "gave up writing after 2^64 tries"))
+    } else {
+        Ok(())
+    }
+}
+
+// Writes a number in decimal.
+fn write_number<W: Write>(out: &mut W, number: u64) -> io::Result<()>
+    ensures text { OnOk result (Appends (W.contents out.old) (W.contents out.new) (decimal number)) }
+    ensures left { OnErr result (AppendsPart (W.contents out.old) (W.contents out.new) (decimal number)) }
+{
+    let mut digits = [0u8; 20];
+    let many = decimal(number, &mut digits);
+    write_bytes(out, &digits[..many])
+}
+
 // Writes a byte, or, for a '#', the number at a place; gives how many numbers were written.
 fn say_byte<W: Write>(out: &mut W, byte: u8, tally: &Totals, place: usize) -> io::Result<usize>
     ensures count { IfOk result (λ said. (said ≡ one_where (byte == 35)) × (said ≤ 1)) }
     ensures text { OnOk result (Appends (W.contents out.old) (W.contents out.new) (said_byte byte tally.now place)) }
+    ensures left { OnErr result (AppendsPart (W.contents out.old) (W.contents out.new) (said_byte byte tally.now place)) }
 {
     if byte == 35 {
-        let number = tally[place % 32];
-        write!(out, "{number}")?;
+        write_number(out, tally[place % 32])?;
         Ok(1)
     } else {
-        let one = [byte; 1];
-        out.write_all(&one)?;
+        write_bytes(out, &[byte; 1])?;
         Ok(0)
     }
 }
 
-// Writes a line in which each '#' stands for the next number of a tally, from a place on; gives how many numbers were written.
+// Writes a line in which each '#' stands for the next number of a tally, from a place on; gives how many numbers were written. An error
+// leaves a part of the front of this text written, and nothing else.
 pub fn say<W: Write>(out: &mut W, line: &[u8], tally: &Totals, from: usize) -> io::Result<usize>
     ensures count { IfOk result (λ said. said ≡ sum_to (is_like 35 line.now) (length line.now)) }
     ensures text { OnOk result (Appends (W.contents out.old) (W.contents out.new) (said_text line.now tally.now from (length line.now))) }
+    ensures left { OnErr result (AppendsPart (W.contents out.old) (W.contents out.new) (said_text line.now tally.now from (length line.now))) }
 {
     let long = line.len();
     let start = from % 32;

@@ -1,5 +1,7 @@
 -- Tallies: 32 counts, which wrap past 64 bits.
-use Rattle.std.specs.Prelude.{ℕ, zero, suc, ◌+◌, ◌*◌, ◌/◌, ◌%◌, ◌^◌, Bool, cond, List, [], ◌∷◌, ◌++◌, ◌==◌, bit_xor, decimal, slice_index, slice_set}
+use Rattle.std.specs.Prelude.{ℕ, zero, suc, ◌+◌, ◌*◌, ◌/◌, ◌%◌, ◌^◌, ◌≤◌, Bool, cond, List, [], ◌∷◌, ◌++◌, length, take, ◌==◌, bit_xor, decimal, slice_index, slice_set}
+use Rattle.std.specs.Io.KnownBytes.{Appends}
+use Rattle.std.specs.declared.option.Option.{Option}
 use Rattle.laws.specs.Sums.{sum_to}
 use Rattle.second.specs.Working.Lines.{is_like}
 
@@ -30,3 +32,7 @@ said_byte byte tally place = cond (byte == 35) (decimal (slice_index tally (plac
 unfoldable pub said_text : (line tally : List ℕ) (from : ℕ) → ℕ → List ℕ
 said_text line tally from zero = []
 said_text line tally from (suc k) = said_text line tally from k ++ said_byte (slice_index line k) tally (from % 32 + sum_to (is_like 35 line) k)
+
+-- a stream whose bytes are known holds what it held, and then a part of the front of a text: none of it, some of it or all of it
+abbrev pub AppendsPart : (old new : Option (List ℕ)) (text : List ℕ) → Type 0
+AppendsPart old new text = (k : ℕ) × (k ≤ length text) × Appends old new (take k text)
