@@ -10,8 +10,7 @@
  * pugdrel_write_blocks and pugdrel_load, in the crate of the entry: array, blocks or load. Not proved are the compiler's back end and
  * this header, which repeats the types of the source by hand; examples/c checks every call.
  *
- * Build and link, from the root of the repository, on x86-64 Linux. The library is built for processors of the level x86-64-v2, that
- * is with SSE4.2 and POPCNT:
+ * Build and link, from the root of the repository, on x86-64 Linux:
  *
  *     tools/build staticlib
  *     cc -Iinclude examples/c/decode.c target/staticlib/libpugdrel.a -o target/decode && target/decode

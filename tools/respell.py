@@ -8,7 +8,7 @@ usage: python3 tools/respell.py   at the top of the repository, once, after the 
   specs/working, specs.working.M  ->  specs/Working, specs.Working.M      a module
 
 Functions of src/, types, the constructors of data types, strings, inputs and outputs keep their names. Contracts, definitions, proofs and must-fail edits are
-rewritten in place. It stops, and writes nothing, where two names of one file would fall together.
+rewritten in place. It says so where two names of one file fall together. With --try it writes nothing.
 """
 
 import os
@@ -139,13 +139,16 @@ def main():
             text = read(path)
             goals = set(re.findall(r"(?m)^(\S+) : tie\.", text)) if of_a_function(path) else set()
             library = imported(text, crates)
+            # a value that this file neither declares nor imports is a variable of its own
+            library |= {it for it in VALUES if not re.search(rf"(?m)^(?:abbrev )?(?:pub )?{it} :|^use [^\n]*\{{[^}}\n]*\b{it}\b", text)}
             out, at, seen = [], 0, {}
             for m in TOKEN.finditer(text):
                 word = m.group(0)
                 line = text.rfind("\n", 0, m.start()) + 1
                 before = text[line : m.start()]
                 new = LEMMAS_OF.get((path, word), word)
-                if new != word or word in library:
+                is_comment = before.lstrip().startswith(("--", "//"))
+                if new != word or word in library or (is_comment and word in VALUES):
                     pass
                 elif ending == ".edit" and word in LIBRARY:
                     new = LIBRARY[word]

@@ -232,7 +232,7 @@ module _ (d : Degree) where
 
   -- an array that holds a message, cell by cell, has it taken out of it
   holds_out : (s m : List ℕ) → length s ≡ n * n → length m ≡ k * k → Holds d s m → extracted d s ≡ m
-  holds_out s m l lm word_h = array_ext k k (extracted d s) m (extract_length s l) lm (λ i j h q. extract_at s l i j h q ∙ word_h i j h q)
+  holds_out s m l lm H = array_ext k k (extracted d s) m (extract_length s l) lm (λ i j h q. extract_at s l i j h q ∙ H i j h q)
 
   -- encoding gives the one array that holds the message and has a codeword in each row and column
   pub encode_one : (m : List ℕ) → IsWord (k * k) m → OneArray d m (encode_array d m)
@@ -241,6 +241,6 @@ module _ (d : Degree) where
         codewords = encode_codeword m M;
         holds = λ i j h q.
             sym (extract_at (encode_array d m) (encode_length m M) i j h q) ∙ ap (λ (w : List ℕ). get_or w (i * k + j) 0) (encode_holds m M);
-        only = λ s S word_h. encode_only s S m (holds_out s m S.whole M.long word_h);
+        only = λ s S H. encode_only s S m (holds_out s m S.whole M.long H);
         back = encode_holds m M;
       }

@@ -203,15 +203,15 @@ sum_unit (suc c) (x ∷ w) = sum_step (unit (suc c)) x w ∙ rw mul-zero (sum_un
 
 -- ---- sums over the numbers below a bound
 
-pub to_cong : (k : ℕ) (F word_g : ℕ → ℕ) → ((i : ℕ) → i < k → F i ≡ word_g i) → xor_to k F ≡ xor_to k word_g
+pub to_cong : (k : ℕ) (F G : ℕ → ℕ) → ((i : ℕ) → i < k → F i ≡ G i) → xor_to k F ≡ xor_to k G
 unfolding xor_to
-to_cong zero F word_g h = refl
-to_cong (suc k) F word_g h = ap₂ bit_xor (h 0 (omega arith)) (to_cong k (λ i. F (suc i)) (λ i. word_g (suc i)) (λ i q. h (suc i) (omega arith)))
+to_cong zero F G h = refl
+to_cong (suc k) F G h = ap₂ bit_xor (h 0 (omega arith)) (to_cong k (λ i. F (suc i)) (λ i. G (suc i)) (λ i q. h (suc i) (omega arith)))
 
-pub to_both : (k : ℕ) (F word_g : ℕ → ℕ) → xor_to k (λ i. bit_xor (F i) (word_g i)) ≡ bit_xor (xor_to k F) (xor_to k word_g)
+pub to_both : (k : ℕ) (F G : ℕ → ℕ) → xor_to k (λ i. bit_xor (F i) (G i)) ≡ bit_xor (xor_to k F) (xor_to k G)
 unfolding xor_to
-to_both zero F word_g = refl
-to_both (suc k) F word_g = rw (to_both k (λ i. F (suc i)) (λ i. word_g (suc i))) (simp xors)
+to_both zero F G = refl
+to_both (suc k) F G = rw (to_both k (λ i. F (suc i)) (λ i. G (suc i))) (simp xors)
 
 to_zero : (k : ℕ) → xor_to k (λ i. 0) ≡ 0
 unfolding xor_to

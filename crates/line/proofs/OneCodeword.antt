@@ -139,11 +139,11 @@ module _ (d : Degree) (ys rs : List ℕ) (f : ℕ) {y r : Line} (p : Packs (size
 -- the mask of the cells at which it does not stay in reach of both
 module _ (d : Degree) (ys rs : List ℕ) (f : ℕ) {b : Base} (B : Based d ys rs f b) (e : few ys ≡ true) (o : one_codeword b.one.tried b.two.tried ≡ true) where
   in_reach : (k : ℕ) → k < size d → (s : Side) (h : Trial) → TrialOf d ys rs f s h → h.tried.found ≡ true → stays h k ≡ true → reach (bounded d) ys rs f k s ≡ true
-  in_reach k hk s h word_h g t =
+  in_reach k hk s h H g t =
       let p = B.incoming in
       let q = B.channel in
-      sym (reach_at d ys rs f k p.cells q.cells hk s h.tried word_h.tried (bit_at (value h.tried.word) k) (λ c w. bit_of_word k w))
-      ∙ rw (g, ← bit_of_word k word_h.before, ← (bit_of_word k word_h.channel ∙ channel_bit d ys rs f k p.cells q.cells hk s)) t
+      sym (reach_at d ys rs f k p.cells q.cells hk s h.tried H.tried (bit_at (value h.tried.word) k) (λ c w. bit_of_word k w))
+      ∙ rw (g, ← bit_of_word k H.before, ← (bit_of_word k H.channel ∙ channel_bit d ys rs f k p.cells q.cells hk s)) t
 
   stays_message : (k : ℕ) → k < size d → stays b.one k ≡ true → stays b.two k ≡ true → (eqb (b.erased + 1) designed_distance && eqb (cell rs k) 2) ≡ false
       → (cell (start d ys rs f) k ≡ message (bounded d) ys rs f k) × (cost (clause (bounded d) ys rs f k) ≡ 0)

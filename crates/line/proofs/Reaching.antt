@@ -62,9 +62,9 @@ module _ (d : Degree) (ys rs : List ℕ) (f k : ℕ) (ly : IsLine (size d) ys) (
   channel_bit s = filled_cell_lem s rs f k (rw lr.long hk) ∙ sym (now_cell (bounded_decoder d) ys rs f k ly lr hk s)
 
   -- a filling, and cell k of what it found
-  module _ (s : Side) (t : Tried) (word_h : Decodes d (filled s ys f) t) (own : ℕ) (is-own : (c : List ℕ) → PacksWord (size d) c (value t.word) → own ≡ cell c k) where
+  module _ (s : Side) (t : Tried) (H : Decodes d (filled s ys f) t) (own : ℕ) (is-own : (c : List ℕ) → PacksWord (size d) c (value t.word) → own ≡ cell c k) where
     pub value_at : cond t.found own (cell rs k) ≡ answer_cell (bounded d) ys rs f k (bounded d (filled s ys f))
-    value_at = go word_h.answer
+    value_at = go H.answer
       where
         go : {p : Answer} → Answers (size d) p t → cond t.found own (cell rs k) ≡ answer_cell (bounded d) ys rs f k p
         go (failed e) = rw e (sym (z_cell (bounded_decoder d) ys rs f k ly lr hk))
@@ -73,7 +73,7 @@ module _ (d : Degree) (ys rs : List ℕ) (f k : ℕ) (ly : IsLine (size d) ys) (
     pub reach_at : (t.found && (ltb t.changed radius || (eqb (cell (filled s ys f) k) (cell (filled s (replaced ys rs k) f) k) || not (eqb own (cell (filled s ys f) k)))))
         ≡ reach (bounded d) ys rs f k s
     unfolding reach
-    reach_at = go (bounded d (filled s ys f)) refl word_h.answer
+    reach_at = go (bounded d (filled s ys f)) refl H.answer
       where
         go : (p : Answer) → bounded d (filled s ys f) ≡ p → Answers (size d) p t
             → (t.found && (ltb t.changed radius || (eqb (cell (filled s ys f) k) (cell (filled s (replaced ys rs k) f) k) || not (eqb own (cell (filled s ys f) k)))))
@@ -84,7 +84,7 @@ module _ (d : Degree) (ys rs : List ℕ) (f k : ℕ) (ly : IsLine (size d) ys) (
             let l = filled_word s f ly in
             let q = D.sound l e in
             let b = filled_cell (cell rs k) (filling_bit s (bits_from k f)) in
-            rw (g, word_h.changed g ∙ ap (changed_by (filled s ys f)) e, is-own c w, now_cell D ys rs f k ly lr hk s, now_is D ys rs f k ly lr hk s)
+            rw (g, H.changed g ∙ ap (changed_by (filled s ys f)) e, is-own c w, now_cell D ys rs f k ly lr hk s, now_is D ys rs f k ly lr hk s)
             (sym (moves (distance (filled s ys f) c) (distance (set (filled s ys f) k b) c) q.1 (l.small k) (new_lt D ys rs f k ly lr hk s) (w.cells.small k)
             (distance_set (filled s ys f) c k b (rw l.long hk) (rw w.cells.long hk))))
 

@@ -6,5 +6,5 @@ use Rattle.line.proofs.messages.near_only.Goals as goal
 
 pub returns : goal.returns
 returns c =
-    λ ys rs f s ly lr hk e word_h.
-    near_at c.args.d ys rs f _ s _ _ _ word_h.tried.answer (c.seen_at-v.ensures ys rs f s ly lr hk e word_h).reach refl refl
+    λ ys rs f s ly lr hk e H.
+    near_at c.args.d ys rs f _ s _ _ _ H.tried.answer (c.seen_at-v.ensures ys rs f s ly lr hk e H).reach refl refl
