@@ -6,14 +6,13 @@ use mathlib.Core.List.{List, []}
 use Prim.Native.Nat.{ℕ}
 use native.Mathlib.Omega.{arith}
 use Rattle.degree.specs.declared.Degree.{Degree}
-use Rattle.degree.specs.declared.Named.TheVariants.{Known}
+use Rattle.std.specs.Prelude.{Some, Ok, Err}
 use Rattle.degree.specs.Degree.{named}
 use Rattle.line.specs.Cells.{erasures}
 use Rattle.line.specs.declared.refusals.Refusal.{Refusal}
 use Rattle.line.specs.Refusals.{number, refusal}
 use Rattle.line.proofs.Refusing.{known_one, known_size, some_number, given_taken, given_refused}
 use Rattle.array.specs.declared.report.Report.{Report}
-use Rattle.array.specs.declared.entry.DecodeAnswer.TheVariants as answer
 use Rattle.array.specs.Plain.{fillings, plain, plain_count, closed}
 use Rattle.array.specs.Refusals.{decode_tests}
 use Rattle.array.specs.Entries.{DecodeDone}
@@ -26,8 +25,8 @@ module _ (degree l : ℕ) (r w s : List ℕ) where
   abbrev Tests : List (ℕ × Bool)
   Tests = decode_tests degree l r w s []
 
-  pub done_taken : {d₀ : Degree} {after : List ℕ} {t : Report} → (refusal Tests ≡ 0) × (named degree ≡ Known d₀) → DecodingDone d₀ l r (fillings w) after t
-      → DecodeDone degree l r w s [] after (answer.Decoded t)
+  pub done_taken : {d₀ : Degree} {after : List ℕ} {t : Report} → (refusal Tests ≡ 0) × (named degree ≡ Some d₀) → DecodingDone d₀ l r (fillings w) after t
+      → DecodeDone degree l r w s [] after (Ok t)
   done_taken {d₀} {after} {t} h k =
       let whole = (decode_takes degree l r w s d₀ h).0 in
       record {
@@ -44,7 +43,7 @@ module _ (degree l : ℕ) (r w s : List ℕ) where
             (same.cells ∙ m.cells, same.closed ∙ m.closing);
       }
 
-  pub done_refused : (why : Refusal) → number why ≡ refusal Tests → DecodeDone degree l r w s [] s (answer.Refused why)
+  pub done_refused : (why : Refusal) → number why ≡ refusal Tests → DecodeDone degree l r w s [] s (Err why)
   done_refused why h =
       record {
         refusal = h;

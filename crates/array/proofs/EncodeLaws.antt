@@ -5,7 +5,7 @@ use mathlib.Core.Bool.{Bool}
 use mathlib.Core.List.{List}
 use Prim.Native.Nat.{ℕ}
 use Rattle.degree.specs.declared.Degree.{Degree}
-use Rattle.degree.specs.declared.Named.TheVariants.{Known}
+use Rattle.std.specs.Prelude.{Some}
 use Rattle.degree.specs.Degree.{named}
 use Rattle.line.specs.declared.refusals.Refusal.{Refusal}
 use Rattle.line.specs.Refusals.{number, refusal}
@@ -20,7 +20,7 @@ module _ (degree : ℕ) (message before : List ℕ) where
   abbrev Tests : List (ℕ × Bool)
   Tests = coding_tests 1 degree message before message
 
-  pub encoded_taken : {d : Degree} {after : List ℕ} → (refusal Tests ≡ 0) × (named degree ≡ Known d) → after ≡ encode_array d message
+  pub encoded_taken : {d : Degree} {after : List ℕ} → (refusal Tests ≡ 0) × (named degree ≡ Some d) → after ≡ encode_array d message
       → Encoded degree message before after 0
   encoded_taken {d} {after} h e =
       record {

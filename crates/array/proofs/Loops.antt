@@ -2,78 +2,72 @@
 -- Assumes nothing.
 use mathlib.Core.Path.{◌≡◌, refl, sym, ap, ◌∙◌, subst}
 use mathlib.Core.List.{List}
-use Prim.Native.Nat.{ℕ, suc, ◌+◌, ◌-◌, ◌*◌, ◌<◌, ◌≤◌}
-use native.Mathlib.Nat.{zero-mul, suc-mul, add-zero, add_assoc, not-suc-le-zero}
+use Prim.Native.Nat.{ℕ, ◌+◌, ◌-◌, ◌*◌, ◌<◌, ◌≤◌}
+use native.Mathlib.Nat.{add_assoc, not-suc-le-zero}
 use native.Mathlib.Omega.{arith}
 use borrow.Rule.Slice.PartMut.{put_mid}
 use lib.ListN.{length, take, drop, get_or, length-drop}
 use lib.Seq.{length-take-le, get_or-take, get_or-drop, ext_get_or}
 use Rattle.degree.specs.declared.Degree.{Degree}
 use Rattle.degree.specs.Degree.{size}
-use Rattle.words.specs.Working.Grid.{grid_size, word_in, word_put}
+use Rattle.words.specs.declared.word.grid.Grid.{Grid}
+use Rattle.words.specs.Working.Grid.{word_in, WordPut}
 use Rattle.words.specs.Working.Word.{width}
-use Rattle.words.proofs.GridLaws.{put_long, put_next}
+use Rattle.words.proofs.GridLaws.{put_next}
 use Rattle.line.specs.Cells.{IsWord}
 use Rattle.line.specs.Working.Packed.{PacksWord}
 use Rattle.line.specs.Encoding.{message_size, encode_line}
 use Rattle.array.specs.Arrays.{line, lines}
 use Rattle.array.specs.Working.EncodedRows.{EncodedRows}
 use Rattle.array.proofs.ArrayLaws.{Even, line_at, line_cells, length_line, line_room}
-use Rattle.array.proofs.WrittenLines.{Lining, part_at, lining_start, lining_room, lining_part, lining_put, lining_all}
+use Rattle.array.proofs.WrittenLines.{Lining, part_at, lining_start, lining_part, lining_put, lining_all}
 use Rattle.line.proofs.Bounds.{square_le, message_le}
 
 -- ---- the message rows, a row a turn
 
-pub record Encoding (d : Degree) (k : ℕ) (m ws₀ ws : List ℕ) (a at : ℕ) : Type 0 where
+pub record Encoding (d : Degree) (k : ℕ) (m : List ℕ) (ws : Grid) (a : ℕ) : Type 0 where
   pub count : k ≡ message_size d
   pub low : a ≤ k
-  pub place : at ≡ a * k
-  pub long : length ws ≡ length ws₀
-  pub words : (b : ℕ) → b < a → PacksWord (size d) (encode_line d (line k m b)) (word_in ws 0 b)
+  pub words : (b : ℕ) → b < a → PacksWord (size d) (encode_line d (line k m b)) (word_in ws b)
 
-pub encoding_start : (d : Degree) (k : ℕ) (m ws : List ℕ) → k ≡ message_size d → Encoding d k m ws ws 0 0
+pub encoding_start : (d : Degree) (k : ℕ) (m : List ℕ) (ws : Grid) → k ≡ message_size d → Encoding d k m ws 0
 encoding_start d k m ws e = record {
   count = e;
   low = omega arith;
-  place = sym (zero-mul k);
-  long = refl;
   words = λ b h. absurd (not-suc-le-zero h);
 }
 
-module _ {d : Degree} {k : ℕ} {m ws₀ ws : List ℕ} {a at : ℕ} (w : Encoding d k m ws₀ ws a at) where
+module _ {d : Degree} {k : ℕ} {m : List ℕ} {ws : Grid} {a : ℕ} (w : Encoding d k m ws a) where
   whole : IsWord (message_size d * message_size d) m → IsWord (k * k) m
   whole M = subst (λ (x : ℕ). IsWord (x * x) m) (sym w.count) M
 
   pub encoding_end : k ≤ a → EncodedRows d m ws
   encoding_end h = record {
-    at = λ b q. subst (λ (x : ℕ). PacksWord (size d) (encode_line d (line x m b)) (word_in ws 0 b)) w.count (w.words b (omega (arith, w.count)));
+    at = λ b q. subst (λ (x : ℕ). PacksWord (size d) (encode_line d (line x m b)) (word_in ws b)) w.count (w.words b (omega (arith, w.count)));
   }
 
   module _ (h : a < k) where
-    encoding_part : take (at + k - at) (drop at m) ≡ line k m a
-    encoding_part = part_at at k m w.place
+    encoding_part : take (a * k + k - a * k) (drop (a * k) m) ≡ line k m a
+    encoding_part = part_at (a * k) k m refl
 
     -- there is a word for the row
-    pub encoding_word : length ws₀ ≡ grid_size → (a < width) × (0 + grid_size ≤ length ws)
-    encoding_word l = (omega (arith, message_le d w.count), omega (arith, w.long))
+    pub encoding_word : a < width
+    encoding_word = omega (arith, message_le d w.count)
 
     -- the row lies within the message, and its end fits
-    pub encoding_room : IsWord (message_size d * message_size d) m → (at + k ≤ length m) × (at + k ≤ 16384)
+    pub encoding_room : IsWord (message_size d * message_size d) m → (a * k + k ≤ length m) × (a * k + k ≤ 16384)
     encoding_room M =
-        let r : at + k ≤ k * k = omega (arith, w.place, line_room k k a h) in
+        let r : a * k + k ≤ k * k = line_room k k a h in
         (omega (arith, (whole M).long), omega (arith, square_le k (message_le d w.count)))
 
-    pub encoding_cells : IsWord (message_size d * message_size d) m → IsWord (message_size d) (take (at + k - at) (drop at m))
-    encoding_cells M = subst (λ (x : ℕ). IsWord x (take (at + k - at) (drop at m))) w.count (rw encoding_part (line_cells k k a (whole M) h))
+    pub encoding_cells : IsWord (message_size d * message_size d) m → IsWord (message_size d) (take (a * k + k - a * k) (drop (a * k) m))
+    encoding_cells M = subst (λ (x : ℕ). IsWord x (take (a * k + k - a * k) (drop (a * k) m))) w.count (rw encoding_part (line_cells k k a (whole M) h))
 
-    pub encoding_next : length ws₀ ≡ grid_size → (word : ℕ) → PacksWord (size d) (encode_line d (take (at + k - at) (drop at m))) word
-        → Encoding d k m ws₀ (word_put ws 0 a word) (a + 1) (at + k)
-    encoding_next l word e = record {
+    pub encoding_next : {ws' : Grid} (word : ℕ) → WordPut ws a word ws' → PacksWord (size d) (encode_line d (take (a * k + k - a * k) (drop (a * k) m))) word → Encoding d k m ws' (a + 1)
+    encoding_next {ws'} word p e = record {
       count = w.count;
       low = omega arith;
-      place = omega (arith, w.place, suc-mul a k);
-      long = put_long ws 0 a word ∙ w.long;
-      words = put_next (λ b y. PacksWord (size d) (encode_line d (line k m b)) y) ws a word (encoding_word l).0 (w.long ∙ l) w.words (rw (← encoding_part) e);
+      words = put_next (λ b y. PacksWord (size d) (encode_line d (line k m b)) y) ws ws' a word p w.words (rw (← encoding_part) e);
     }
 
 -- ---- message cells copied out of an array, a row a turn
@@ -82,12 +76,11 @@ module _ {d : Degree} {k : ℕ} {m ws₀ ws : List ℕ} {a at : ℕ} (w : Encodi
 abbrev pub inner : (n k p : ℕ) → List ℕ → ℕ → List ℕ
 inner n k p a i = take k (drop p (line n a (p + i)))
 
-pub record Taking (n k p : ℕ) (a old new : List ℕ) (i from to : ℕ) : Type 0 where
+pub record Taking (n k p : ℕ) (a old new : List ℕ) (i : ℕ) : Type 0 where
   pub room : p + k ≤ n
   pub small : n ≤ 128
   pub whole : length a ≡ n * n
-  pub source : from ≡ (p + i) * n + p
-  pub lining : Lining k (inner n k p a) k 0 old new i to
+  pub lining : Lining k (inner n k p a) k old new i
 
 -- the cells as they stand in the array
 inner_part : (n k p : ℕ) (a : List ℕ) (i : ℕ) → p + k ≤ n → i < k → length a ≡ n * n
@@ -109,42 +102,45 @@ inner_length n k p a r l i h =
     length-take-le k (drop p (line n a (p + i))) (rw length-drop (omega (arith, length_line n n a (p + i) (omega arith) l)))
 
 pub taking_start : (n k p : ℕ) (a old : List ℕ) → p + k ≤ n → n ≤ 128 → length a ≡ n * n → length old ≡ k * k
-    → Taking n k p a old old 0 (p * n + p) 0
+    → Taking n k p a old old 0
 taking_start n k p a old r s l m = record {
   room = r;
   small = s;
   whole = l;
-  source = ap (λ (x : ℕ). x * n + p) (sym (add-zero p));
   lining = lining_start (inner_length n k p a r l) (omega arith);
 }
 
-module _ {n k p : ℕ} {a old new : List ℕ} {i from to : ℕ} (w : Taking n k p a old new i from to) (h : i < k) where
+module _ {n k p : ℕ} {a old new : List ℕ} {i : ℕ} (w : Taking n k p a old new i) (h : i < k) where
+  abbrev from : ℕ
+  from = (p + i) * n + p
+
+  abbrev to : ℕ
+  to = i * k
+
   -- the part that is read lies within the array, and the part that is written within the message
   pub taking_source : from + k ≤ n * n
-  taking_source = omega (arith, w.room, w.source, line_room n n (p + i) (omega (arith, w.room)))
+  taking_source = omega (arith, w.room, line_room n n (p + i) (omega (arith, w.room)))
 
   -- both ends fit
   pub taking_fits : (from + k ≤ 16384) × (to + k ≤ 16384)
   taking_fits =
       let l : k ≤ 128 = omega (arith, w.room, w.small) in
-      (omega (arith, taking_source, square_le n w.small), omega (arith, lining_room w.lining h, square_le k l))
+      (omega (arith, taking_source, square_le n w.small), omega (arith, line_room k k i h, square_le k l))
 
   source_part : take (from + k - from) (drop from a) ≡ inner n k p a i
-  source_part = part_at from k a w.source ∙ inner_part n k p a i w.room h w.whole
+  source_part = part_at from k a refl ∙ inner_part n k p a i w.room h w.whole
 
   pub taking_part : length (take (from + k - from) (drop from a)) ≡ length (take (to + k - to) (drop to new))
   taking_part = ap length source_part ∙ w.lining.even i h ∙ sym (lining_part w.lining h)
 
-  pub taking_next : (y : List ℕ) → y ≡ take (from + k - from) (drop from a)
-      → Taking n k p a old (put_mid to (to + k - to) new y) (i + 1) (from + n) (to + k)
-  taking_next y e = let next : (p + (i + 1)) * n ≡ suc (p + i) * n = ap (λ (x : ℕ). x * n) (omega arith) in record {
+  pub taking_next : (y : List ℕ) → y ≡ take (from + k - from) (drop from a) → Taking n k p a old (put_mid to (to + k - to) new y) (i + 1)
+  taking_next y e = record {
     room = w.room;
     small = w.small;
     whole = w.whole;
-    source = omega (arith, w.source, suc-mul (p + i) n, next);
     lining = lining_put w.lining h y (e ∙ source_part);
   }
 
-pub taking_end : {n k p : ℕ} {a old new : List ℕ} {i from to : ℕ} → Taking n k p a old new i from to → length old ≡ k * k → k ≤ i
+pub taking_end : {n k p : ℕ} {a old new : List ℕ} {i : ℕ} → Taking n k p a old new i → length old ≡ k * k → k ≤ i
     → new ≡ lines (inner n k p a) k
 taking_end w = lining_all w.lining

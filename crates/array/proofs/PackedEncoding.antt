@@ -22,12 +22,13 @@ use Rattle.line.proofs.UnitLaws.{pack_packs, unit_bit}
 use Rattle.array.specs.Arrays.{line, lines}
 use Rattle.array.specs.Encoding.{encode_lines, encode_array, ProductCodeword}
 use Rattle.array.specs.Working.EncodedRows.{EncodedRows}
+use Rattle.words.specs.declared.word.grid.Grid.{Grid}
 use Rattle.words.specs.Working.Grid.{word_in}
 use Rattle.words.specs.Working.Sums.{chosen_sum}
 use Rattle.array.proofs.ArrayLaws.{line_at, lines_are}
 use Rattle.array.proofs.ArrayEncoding.{line_coded, encoded_line_lem, cell_rows, encode_codeword}
 
-module _ (d : Degree) (t : List ℕ) (U : Units d t) (m : List ℕ) (M : IsWord (message_size d * message_size d) m) where
+module _ (d : Degree) (t : Grid) (U : Units d t) (m : List ℕ) (M : IsWord (message_size d * message_size d) m) where
   abbrev array : List ℕ
   array = encode_array d m
 
@@ -52,7 +53,7 @@ module _ (d : Degree) (t : List ℕ) (U : Units d t) (m : List ℕ) (M : IsWord 
 
   -- row i as a number
   packed_row : (i : ℕ) → i < size d
-      → pack (line (size d) array i) ≡ xor_to (message_size d) (λ a. bit_at (word_in t 0 a) i * pack (encode_line d (row_of a)))
+      → pack (line (size d) array i) ≡ xor_to (message_size d) (λ a. bit_at (word_in t a) i * pack (encode_line d (row_of a)))
   packed_row i h =
       let w = (summed d i h).weight in
       sum_to (λ j. 2 ^ j) (line (size d) array i)
@@ -65,10 +66,10 @@ module _ (d : Degree) (t : List ℕ) (U : Units d t) (m : List ℕ) (M : IsWord 
       to_cong (size d) _ _ (λ j q. mul_right_comm (Q a j) (w a) (2 ^ j))
       ∙ sym (to_map (λ x. x * w a) (size d) (λ j. Q a j * 2 ^ j) (times_adds ((summed d i h).small a)))
       ∙ ap₂ (λ (x y : ℕ). x * y) (sym (pack_row a z)) (sym (unit_bit d t U i a h z))
-      ∙ mul_comm (pack (encode_line d (row_of a))) (bit_at (word_in t 0 a) i))
+      ∙ mul_comm (pack (encode_line d (row_of a))) (bit_at (word_in t a) i))
 
   -- the rows made from the words of the encoded message rows are the array's
-  packed_array : (ws : List ℕ) → EncodedRows d m ws
+  packed_array : (ws : Grid) → EncodedRows d m ws
       → lines (λ i. digits (size d) (chosen_sum t ws (message_size d) i)) (size d) ≡ array
   unfolding chosen_sum
   packed_array ws W =
@@ -76,11 +77,11 @@ module _ (d : Degree) (t : List ℕ) (U : Units d t) (m : List ℕ) (M : IsWord 
       (λ i h.
       let r = line (size d) array i in
       let same : chosen_sum t ws (message_size d) i ≡ pack r =
-      to_cong (message_size d) _ _ (λ a z. ap (λ (x : ℕ). bit_at (word_in t 0 a) i * x) ((W.at a z).ones ∙ pack_packs (encode_line d (row_of a))))
+      to_cong (message_size d) _ _ (λ a z. ap (λ (x : ℕ). bit_at (word_in t a) i * x) ((W.at a z).ones ∙ pack_packs (encode_line d (row_of a))))
       ∙ sym (packed_row i h) in
       ap (digits (size d)) same ∙ ap (λ (x : ℕ). digits x (pack r)) (sym (A.rows i h).word.long) ∙ digits_pack r (A.rows i h).word.small)
 
 -- what the encoder's parts make is the encoded array
-pub by_units : (d : Degree) (t m ws : List ℕ) (n k : ℕ) → Units d t → IsWord (message_size d * message_size d) m → EncodedRows d m ws → n ≡ size d → k ≡ message_size d
+pub by_units : (d : Degree) (t : Grid) (m : List ℕ) (ws : Grid) (n k : ℕ) → Units d t → IsWord (message_size d * message_size d) m → EncodedRows d m ws → n ≡ size d → k ≡ message_size d
     → lines (λ i. digits n (chosen_sum t ws k i)) n ≡ encode_array d m
 by_units d t m ws n k U M W e f = rw (e, f) (packed_array d t U m M ws W)

@@ -4,8 +4,8 @@
 use mathlib.Core.Path.{◌≡◌, refl, sym, ap, ap₂, ◌∙◌}
 use mathlib.Core.Bool.{Bool, false}
 use mathlib.Core.List.{List, [], ◌∷◌, ◌++◌, append_assoc, append-nil}
-use mathlib.Core.Logic.{dite, inl, inr}
-use Prim.Native.Nat.{ℕ, suc, ◌+◌, ◌-◌, ◌*◌, ◌%◌, ◌^◌, ◌<◌, ◌≤◌}
+use mathlib.Core.Logic.{dite}
+use Prim.Native.Nat.{ℕ, suc, ◌+◌, ◌-◌, ◌*◌, ◌%◌, ◌<◌, ◌≤◌}
 use native.Mathlib.Nat.{suc-mul, zero-mul, lt_of_lt_of_le}
 use native.Mathlib.Numerals.{add-one}
 use native.Mathlib.Omega.{arith}
@@ -24,10 +24,11 @@ use Rattle.line.specs.declared.packed.Line.{Line}
 use Rattle.words.specs.Working.Word.{value, width}
 use Rattle.line.proofs.PackBits.{pack_by_lt}
 use Rattle.line.proofs.RowLaws.{size_room, size_eights}
-use Rattle.words.specs.Working.Grid.{grid_size, word_in, word_put, Small, Within, GridTurned}
-use Rattle.words.proofs.GridLaws.{put_long, put_same, put_other, put_small, word_small, word_stands, zeros_word}
+use Rattle.words.specs.declared.word.grid.Grid.{Grid}
+use Rattle.words.specs.Working.Grid.{word_in, WordPut, Within, GridTurned}
+use Rattle.array.specs.declared.packing.PackedRows.{PackedRows}
 use Rattle.array.specs.Arrays.{line, lines}
-use Rattle.array.specs.Working.PackedRows.{with_line, RowWords, Held, LineIn, LinePut, RowsTurned}
+use Rattle.array.specs.Working.PackedRows.{with_line, RowWords, Held, Empty, LineIn, LinePut, RowsTurned}
 use Rattle.array.specs.Working.Steps.{IsArray}
 use Rattle.array.proofs.ArrayLaws.{Even, line_room, line_small, line_cells, transpose_cells, each_cell, line_at, length_lines, lines_are}
 use Rattle.array.proofs.WrittenLines.{part_at}
@@ -142,10 +143,6 @@ module _ (n i at : ℕ) (m : List ℕ) (e : at ≡ i * n) where
   pub line_back : (y : List ℕ) → put_mid at (at + n - at) m y ≡ with_line n m i y
   line_back y = rw (same, e)
 
-  -- the next line starts behind it
-  pub next_place : at + n ≡ (i + 1) * n
-  next_place = rw (add-one, suc-mul, ← e)
-
 -- row i lies within the array
 pub row_within : (n i : ℕ) (m : List ℕ) → length m ≡ n * n → i < n → i * n + n ≤ length m
 row_within n i m l h = omega (arith, line_room n n i h)
@@ -157,40 +154,22 @@ words_put p n i m m' before after w e others same k h =
     dite (ℕ_discrete k i) (λ q. rw q e) (λ q. others k h q ∙ w k h ∙ ap (pack_by p) (sym (same k q)))
 
 -- the words of line i pack row i
-pub held_line : (rows : List ℕ) (i : ℕ) (l : Line) → value l.ones ≡ word_in rows 0 i → value l.erased ≡ word_in rows grid_size i → LineIn rows i l
+pub held_line : (rows : PackedRows) (i : ℕ) (l : Line) → value l.ones ≡ word_in rows.ones i → value l.erased ≡ word_in rows.erased i → LineIn rows i l
 held_line rows i l e f n m k h =
     let q : i < width = omega (arith, k.room) in
     record { room = k.room; cells = line_cells n n i k.array h; ones = e ∙ k.ones i q; erased = f ∙ k.erased i q }
 
--- a packed line fits a word
-pack_fits : {n : ℕ} {v : ℕ} (p : ℕ → Bool) (cs : List ℕ) → length cs ≡ n → n ≤ width → v ≡ pack_by p cs → v < 2 ^ width
-pack_fits p cs l few e = rw e (lt_of_lt_of_le (pack_by_lt p cs) (pow_mono {i = length cs} {j = width} (omega arith)))
-
 -- the words of line i made those of l
-pub held_put : (rows : List ℕ) (i : ℕ) (l : Line) → i < width → LinePut rows i l (word_put (word_put rows 0 i (value l.ones)) grid_size i (value l.erased))
-held_put rows i l few n m y k h p = record {
+pub held_put : (before after : PackedRows) (i : ℕ) (l : Line) → WordPut before.ones i (value l.ones) after.ones → WordPut before.erased i (value l.erased) after.erased → LinePut before i l after
+held_put before after i l one two n m y k h p = record {
   room = k.room;
   array = with_line_cells n i m y k.array h p.cells;
-  long = put_long one grid_size i (value l.erased) ∙ put_long rows 0 i (value l.ones) ∙ k.long;
-  small = put_small one grid_size i (value l.erased) (put_small rows 0 i (value l.ones) k.small (pack_fits is_one y p.cells.long k.room p.ones)) (pack_fits is_erased y p.cells.long k.room p.erased);
-  ones = words_put is_one n i m (with_line n m i y) (λ j. word_in rows 0 j) (λ j. word_in both 0 j) k.ones
-      (apart i few ∙ put_same rows 0 i (value l.ones) few (omega (arith, k.long)) ∙ p.ones ∙ ap (pack_by is_one) here)
-      (λ j q ne. apart j q ∙ put_other rows 0 i (value l.ones) 0 j few q (λ e. ne) (inl refl)) elsewhere;
-  erased = words_put is_erased n i m (with_line n m i y) (λ j. word_in rows grid_size j) (λ j. word_in both grid_size j) k.erased
-      (put_same one grid_size i (value l.erased) few (omega (arith, k.long, put_long rows 0 i (value l.ones))) ∙ p.erased ∙ ap (pack_by is_erased) here)
-      (λ j q ne. put_other one grid_size i (value l.erased) grid_size j few q (λ e. ne) (inl refl) ∙ put_other rows 0 i (value l.ones) grid_size j few q (λ e. absurd (omega arith)) (inr (inr (omega arith)))) elsewhere;
+  ones = words_put is_one n i m (with_line n m i y) (λ j. word_in before.ones j) (λ j. word_in after.ones j) k.ones
+      (one.here ∙ p.ones ∙ ap (pack_by is_one) here) (λ j q ne. one.others j ne) elsewhere;
+  erased = words_put is_erased n i m (with_line n m i y) (λ j. word_in before.erased j) (λ j. word_in after.erased j) k.erased
+      (two.here ∙ p.erased ∙ ap (pack_by is_erased) here) (λ j q ne. two.others j ne) elsewhere;
 }
   where
-    one : List ℕ
-    one = word_put rows 0 i (value l.ones)
-
-    both : List ℕ
-    both = word_put one grid_size i (value l.erased)
-
-    -- the second grid lies apart from the first
-    apart : (j : ℕ) → j < width → word_in both 0 j ≡ word_in one 0 j
-    apart j q = put_other one grid_size i (value l.erased) 0 j few q (λ e. absurd (omega arith)) (inr (inl (omega arith)))
-
     room : i * n + n ≤ length m
     room = row_within n i m k.array.long h
 
@@ -208,36 +187,27 @@ pack_by_none p z [] h = refl
 pack_by_none p z (x ∷ xs) h = ap₂ (λ (w : ℕ) (b : Bool). w * 2 + bit b) (pack_by_none p z xs (λ i. h (suc i))) (ap p (h 0) ∙ z)
 
 -- the words of an array's lines have no bits past its n by n cells
-held_within : (p : ℕ → Bool) → p 0 ≡ false → (n base : ℕ) (m rows : List ℕ) → length m ≡ n * n → RowWords p n m (λ i. word_in rows base i) → Within n base rows
-held_within p z n base m rows l w = record {
+held_within : (p : ℕ → Bool) → p 0 ≡ false → (n : ℕ) (m : List ℕ) (g : Grid) → length m ≡ n * n → RowWords p n m (λ i. word_in g i) → Within n g
+held_within p z n m g l w = record {
   short = λ i h. rw (w i h) (lt_of_lt_of_le (pack_by_lt p (line n m i)) (pow_mono {i = length (line n m i)} {j = n} (length_line_le n m i)));
   none = λ i h q. w i q ∙ pack_by_none p z (line n m i) (λ j. line_past n m l i j h);
 }
 
 -- both grids transposed hold the transposed array
-pub held_turned : (n : ℕ) (rows half after : List ℕ)
-    → (Small rows → Within n 0 rows → GridTurned 0 rows half) → (Small half → Within n grid_size half → GridTurned grid_size half after)
-    → length after ≡ length rows → RowsTurned n rows after
-held_turned n rows half after one two long m k = record {
+pub held_turned : (n : ℕ) (before after : PackedRows) → (Within n before.ones → GridTurned before.ones after.ones) → (Within n before.erased → GridTurned before.erased after.erased)
+    → RowsTurned n before after
+held_turned n before after one two m k = record {
   room = k.room;
   array = transpose_cells n n k.array;
-  long = long ∙ k.long;
-  small = second.small;
-  ones = words_turned is_one n m (λ i. word_in rows 0 i) (λ i. word_in after 0 i) refl k.room k.array.long k.ones
-      (λ i h. word_small after 0 i second.small)
-      (λ i j h q. rw (word_stands grid_size grid_size 0 i half after second.stays h (inl (omega arith))) (first.bits i j h q));
-  erased = words_turned is_erased n m (λ i. word_in rows grid_size i) (λ i. word_in after grid_size i) refl k.room k.array.long k.erased
-      (λ i h. word_small after grid_size i second.small)
-      (λ i j h q. rw (← word_stands 0 grid_size grid_size j rows half first.stays q (inr (omega arith))) (second.bits i j h q));
+  ones = words_turned is_one n m (λ i. word_in before.ones i) (λ i. word_in after.ones i) refl k.room k.array.long k.ones (λ i h. first.small i) first.bits;
+  erased = words_turned is_erased n m (λ i. word_in before.erased i) (λ i. word_in after.erased i) refl k.room k.array.long k.erased (λ i h. second.small i) second.bits;
 }
   where
-    first : GridTurned 0 rows half
-    first = one k.small (held_within is_one refl n 0 m rows k.array.long k.ones)
+    first : GridTurned before.ones after.ones
+    first = one (held_within is_one refl n m before.ones k.array.long k.ones)
 
-    second : GridTurned grid_size half after
-    second =
-        two first.small (held_within is_erased refl n grid_size m half k.array.long
-        (λ i h. word_stands 0 grid_size grid_size i rows half first.stays h (inr (omega arith)) ∙ k.erased i h))
+    second : GridTurned before.erased after.erased
+    second = two (held_within is_erased refl n m before.erased k.array.long k.erased)
 
 -- ---- the rows packed, a row a turn
 
@@ -246,45 +216,41 @@ abbrev blank : ℕ → List ℕ
 blank n = replicate (n * n) 0
 
 -- words that are 0 hold it
-blank_held : (n : ℕ) → n ≤ width → Held n (blank n) (replicate (2 * grid_size) 0)
-blank_held n few = record {
+blank_held : (n : ℕ) → n ≤ width → (rows : PackedRows) → Empty rows → Held n (blank n) rows
+blank_held n few rows e = record {
   room = few;
   array = record { long = length-replicate {A = ℕ} (n * n) 0; small = λ i. rw (zeros_at (n * n) i) (omega arith) };
-  long = length-replicate {A = ℕ} (2 * grid_size) 0;
-  small = λ i. rw (zeros_at (2 * grid_size) i) (omega arith);
-  ones = λ i h. zeros_word (2 * grid_size) 0 i ∙ sym (none is_one refl i);
-  erased = λ i h. zeros_word (2 * grid_size) grid_size i ∙ sym (none is_erased refl i);
+  ones = λ i h. e.0 i ∙ sym (none is_one refl i);
+  erased = λ i h. e.1 i ∙ sym (none is_erased refl i);
 }
   where
     none : (p : ℕ → Bool) → p 0 ≡ false → (i : ℕ) → pack_by p (line n (blank n) i) ≡ 0
     none p z i = pack_by_none p z (line n (blank n) i) (λ j. omega (arith, line_small 1 n (blank n) i (λ q. rw (zeros_at (n * n) q) (omega arith)) j))
 
 -- the first i rows are packed; the words after them are 0
-pub record Packing (n : ℕ) (m rows : List ℕ) (i at : ℕ) : Type 0 where
+pub record Packing (n : ℕ) (m : List ℕ) (rows : PackedRows) (i : ℕ) : Type 0 where
   pub low : i ≤ n
-  pub place : at ≡ i * n
   pub held : Held n (so_far n (line n m) (blank n) i) rows
 
-pub packing_start : (d : Degree) {n : ℕ} (m : List ℕ) {rows : List ℕ} → n ≡ size d → rows ≡ replicate (2 * grid_size) 0 → Packing n m rows 0 0
-packing_start d {n} m e z = record {
+pub packing_start : (d : Degree) {n : ℕ} (m : List ℕ) {rows : PackedRows} → n ≡ size d → Empty rows → Packing n m rows 0
+packing_start d {n} m {rows} e z = record {
   low = omega arith;
-  place = sym (zero-mul n);
-  held = rw (z, ← far_start n (line n m) (blank n)) (blank_held n (omega (arith, size_room d)));
+  held = rw (← far_start n (line n m) (blank n)) (blank_held n (omega (arith, size_room d)) rows z);
 }
 
-module _ (d : Degree) {m rows : List ℕ} {i at n : ℕ} (a : IsArray d m) (k : Packing n m rows i at) (e : n ≡ size d) where
+module _ (d : Degree) {m : List ℕ} {rows : PackedRows} {i n : ℕ} (a : IsArray d m) (k : Packing n m rows i) (e : n ≡ size d) where
   array : IsLine (n * n) m
   array = rw e a
 
   -- the row that is lent lies within
-  pub packing_room : i < n → at + n ≤ length m
-  packing_room h = omega (arith, k.place, row_within n i m array.long h)
+  pub packing_room : i < n → i * n + n ≤ length m
+  packing_room h = row_within n i m array.long h
 
   -- and is line i
-  lent : take (at + n - at) (drop at m) ≡ line n m i
-  lent = part_at at n m k.place
+  lent : take (i * n + n - i * n) (drop (i * n) m) ≡ line n m i
+  lent = part_at (i * n) n m refl
 
-  pub packing_lent : i < n → (length (take (at + n - at) (drop at m)) ≤ width) × (length (take (at + n - at) (drop at m)) % 8 ≡ 0) × ((j : ℕ) → get_or (take (at + n - at) (drop at m)) j 0 < 3)
+  pub packing_lent : i < n → (length (take (i * n + n - i * n) (drop (i * n) m)) ≤ width) × (length (take (i * n + n - i * n) (drop (i * n) m)) % 8 ≡ 0) × ((j : ℕ) → get_or (take (i * n + n - i * n) (drop (i * n) m)) j 0 < 3)
   packing_lent h =
       let l : IsLine n (line n m i) = line_cells n n i array h in
       rw lent (rw (l.long, e) (size_room d), rw (l.long, e) (size_eights d), l.small)
@@ -292,13 +258,12 @@ module _ (d : Degree) {m rows : List ℕ} {i at n : ℕ} (a : IsArray d m) (k : 
   even : (j : ℕ) → j < n → length (line n m j) ≡ n
   even j h = (line_cells n n j array h).long
 
-  pub packing_next : {l : Line} {rows' : List ℕ} → i < n → Packs (length (take (at + n - at) (drop at m))) (take (at + n - at) (drop at m)) l
-      → LinePut rows i l rows' → Packing n m rows' (i + 1) (at + n)
+  pub packing_next : {l : Line} {rows' : PackedRows} → i < n → Packs (length (take (i * n + n - i * n) (drop (i * n) m))) (take (i * n + n - i * n) (drop (i * n) m)) l
+      → LinePut rows i l rows' → Packing n m rows' (i + 1)
   packing_next {l} {rows'} h p put =
       let q : Packs n (line n m i) l = rw (lent, even i h) at p in
       record {
         low = omega arith;
-        place = next_place n i at m k.place;
         held = rw (add-one, ← far_next n (line n m) (blank n) i (λ j g. even j (omega arith))) (put n _ (line n m i) k.held h q);
       }
 

@@ -1,4 +1,4 @@
--- Document 01's table of refusals, by its examples, and calls with several faults, which give the lowest number.
+-- The table of refusals, by its examples, and calls with several faults, which give the lowest number.
 -- Assumes nothing.
 use mathlib.Core.Path.{◌≡◌, refl}
 use mathlib.Core.Bool.{Bool}

@@ -10,9 +10,9 @@ use borrow.Author.Tests.{eqb-false, ltb-false, leb-false}
 use lib.Dec.{eqb, ltb}
 use lib.ListN.{length, take, drop}
 use Rattle.degree.specs.declared.Degree.{Degree}
-use Rattle.degree.specs.declared.Named.TheVariants.{Known}
+use Rattle.std.specs.Prelude.{Some, Result}
 use Rattle.degree.specs.Degree.{bits, size, named}
-use Rattle.line.specs.declared.refusals.Call.{Call}
+use Rattle.line.specs.declared.refusals.Refusal.{Refusal}
 use Rattle.line.specs.Cells.{cell, IsWord}
 use Rattle.line.specs.Encoding.{message_size}
 use Rattle.line.specs.Refusals.{refusal, unnamed, misfit, some, at_most}
@@ -31,7 +31,7 @@ use Rattle.array.proofs.WrittenLines.{part_at}
 bits_message : (d : Degree) → message_cells (bits d) ≡ message_size d
 bits_message d = let e : 2 * bits d ≡ bits d + bits d = omega arith in ap (λ (x : ℕ). 2 ^ bits d - 1 - x) e
 
-pub known_message : (degree : ℕ) (d : Degree) → named degree ≡ Known d → message_cells degree ≡ message_size d
+pub known_message : (degree : ℕ) (d : Degree) → named degree ≡ Some d → message_cells degree ≡ message_size d
 known_message degree d e = ap message_cells (known_bits degree d e) ∙ bits_message d
 
 -- ---- a slice of m by m cells, where m is also n
@@ -48,7 +48,7 @@ module _ (degree : ℕ) (one two : Bool) (bound : ℕ) (lent : List ℕ) where
   abbrev Lent : List (ℕ × Bool)
   Lent = (1, unnamed degree) ∷ (3, some (one ∷ two ∷ [])) ∷ (4, not (at_most bound lent)) ∷ []
 
-  pub lent_known : (d : Degree) (r : Call) {x y : Bool} → named degree ≡ Known d → x ≡ one → y ≡ two
+  pub lent_known : (d : Degree) (r : Result Degree Refusal) {x y : Bool} → named degree ≡ Some d → x ≡ one → y ≡ two
       → Tested (bits d) ((3, x || y) ∷ (4, not (at_most bound lent)) ∷ []) r → Tested degree Lent r
   lent_known d r {x} {y} e f g h =
       tested_known degree d ((3, x || y) ∷ (4, not (at_most bound lent)) ∷ []) Lent r e (rw (e, f, g, or-false two)) h
@@ -62,7 +62,7 @@ module _ (degree : ℕ) (one two : Bool) (bound : ℕ) (lent : List ℕ) where
 -- ---- encode and extract
 
 module _ (bound degree : ℕ) (message cells read : List ℕ) (d : Degree) where
-  pub coding_taken : (refusal (coding_tests bound degree message cells read) ≡ 0) × (named degree ≡ Known d)
+  pub coding_taken : (refusal (coding_tests bound degree message cells read) ≡ 0) × (named degree ≡ Some d)
       → (length message ≡ message_size d * message_size d) × (length cells ≡ size d * size d) × ((i : ℕ) → cell read i < suc bound)
   unfolding coding_tests
   coding_taken h =
@@ -70,14 +70,14 @@ module _ (bound degree : ℕ) (message cells read : List ℕ) (d : Degree) where
       (square_fits (length message) (known_message degree d h.1) t.0, square_fits (length cells) (known_size degree d h.1) t.1, t.2)
 
 -- the message of a call to encode that is taken
-pub message_bits : (degree : ℕ) (message cells : List ℕ) (d : Degree) → (refusal (coding_tests 1 degree message cells message) ≡ 0) × (named degree ≡ Known d)
+pub message_bits : (degree : ℕ) (message cells : List ℕ) (d : Degree) → (refusal (coding_tests 1 degree message cells message) ≡ 0) × (named degree ≡ Some d)
     → IsWord (message_size d * message_size d) message
 message_bits degree message cells d h = let t = coding_taken 1 degree message cells message d h in record { long = t.0; small = t.2 }
 
 -- ---- the look-up of a row
 
 module _ (degree : ℕ) (cells : List ℕ) (index : ℕ) (d : Degree) where
-  pub row_taken : (refusal (row_tests degree cells index []) ≡ 0) × (named degree ≡ Known d) → (length cells ≡ size d * size d) × (index < size d)
+  pub row_taken : (refusal (row_tests degree cells index []) ≡ 0) × (named degree ≡ Some d) → (length cells ≡ size d * size d) × (index < size d)
   unfolding row_tests
   row_taken h =
       let t = lent_taken degree _ _ 2 cells h.0 in
@@ -112,7 +112,7 @@ module _ (d : Degree) (l : ℕ) (r w s : List ℕ) where
   unfolding decode_tests
   decode_iterations e = rw (bits_named d, e)
 
-  pub decode_lengths : (c : Call) {n : ℕ} → (eqb l 0 || ltb 20 l) ≡ false → n ≡ size d
+  pub decode_lengths : (c : Result Degree Refusal) {n : ℕ} → (eqb l 0 || ltb 20 l) ≡ false → n ≡ size d
       → Tested (bits d) ((3, misfit (length r) (n * n) || (misfit (length w) (4 * l * n) || misfit (length s) (n * n))) ∷ (4, not (at_most 2 r)) ∷ []) c
       → Tested (bits d) (decode_tests (bits d) l r w s []) c
   unfolding decode_tests
@@ -122,10 +122,10 @@ module _ (d : Degree) (l : ℕ) (r w s : List ℕ) where
       (rw (bits_named d, e, f, or-false (misfit (length s) (size d * size d)))) h
 
 module _ (degree l : ℕ) (r w s : List ℕ) (d : Degree) where
-  pub decode_known : (c : Call) → named degree ≡ Known d → Tested (bits d) (decode_tests (bits d) l r w s []) c → Tested degree (decode_tests degree l r w s []) c
+  pub decode_known : (c : Result Degree Refusal) → named degree ≡ Some d → Tested (bits d) (decode_tests (bits d) l r w s []) c → Tested degree (decode_tests degree l r w s []) c
   decode_known c e h = rw (known_bits degree d e) h
 
-  pub decode_takes : (refusal (decode_tests degree l r w s []) ≡ 0) × (named degree ≡ Known d)
+  pub decode_takes : (refusal (decode_tests degree l r w s []) ≡ 0) × (named degree ≡ Some d)
       → IsArray d r × (length s ≡ size d * size d) × (length w ≡ 4 * l * size d) × (l ≤ 20) × (1 ≤ l)
   unfolding decode_tests
   decode_takes h =

@@ -24,6 +24,7 @@ use Rattle.words.specs.Working.Word.{value}
 use Rattle.line.proofs.RowLaws.{size_room}
 use Rattle.array.specs.declared.report.Report.{Report}
 use Rattle.array.specs.Arrays.{line, transpose}
+use Rattle.array.specs.declared.packing.PackedRows.{PackedRows}
 use Rattle.array.specs.Working.PackedRows.{Held, LineIn, RowsTurned}
 use Rattle.array.specs.Plain.{plain, plain_count, closed}
 use Rattle.array.specs.Working.Steps.{StepDone}
@@ -40,16 +41,16 @@ erasures_append (x ∷ xs) ys =
     ap (λ (n : ℕ). bit (is_erased x) + n) (erasures_append xs ys) ∙ sym (add_assoc (bit (is_erased x)) (erasures xs) (erasures ys))
 
 -- the sum over the first i lines
-pub record Counting (n : ℕ) (rows : List ℕ) (sum i : ℕ) : Type 0 where
+pub record Counting (n : ℕ) (rows : PackedRows) (sum i : ℕ) : Type 0 where
   pub low : i ≤ n
   pub small : sum ≤ 128 * i
   pub done : (m : List ℕ) → Held n m rows → sum ≡ erasures (take (i * n) m)
 
-pub counting_start : (n : ℕ) (rows : List ℕ) → Counting n rows 0 0
+pub counting_start : (n : ℕ) (rows : PackedRows) → Counting n rows 0 0
 unfolding erasures
 counting_start n rows = record { low = omega arith; small = omega arith; done = λ m k. rw zero-mul }
 
-pub counting_next : {n : ℕ} {rows : List ℕ} {sum i k : ℕ} {l : Line} → Counting n rows sum i → i < n → LineIn rows i l
+pub counting_next : {n : ℕ} {rows : PackedRows} {sum i k : ℕ} {l : Line} → Counting n rows sum i → i < n → LineIn rows i l
     → (k ≤ 128) × ((n : ℕ) (cs : List ℕ) → Packs n cs l → k ≡ erasures cs) → Counting n rows (sum + k) (i + 1)
 counting_next {n} {rows} {sum} {i} c h f b = record {
   low = omega arith;
@@ -59,7 +60,7 @@ counting_next {n} {rows} {sum} {i} c h f b = record {
       ∙ sym (erasures_append (take (i * n) m) (line n m i)) ∙ rw (add-one, suc-mul) (ap erasures (sym (take-add (i * n) n m)));
 }
 
-pub counting_end : {n n' : ℕ} {rows : List ℕ} {sum i : ℕ} → Counting n rows sum i → n ≡ n' → n ≤ i → (m : List ℕ) → Held n' m rows → sum ≡ erasures m
+pub counting_end : {n n' : ℕ} {rows : PackedRows} {sum i : ℕ} → Counting n rows sum i → n ≡ n' → n ≤ i → (m : List ℕ) → Held n' m rows → sum ≡ erasures m
 counting_end {n} {n'} {rows} {sum} {i} c e h m k' =
     let k : Held n m rows = rw e k' in
     let z : i ≡ n = omega (arith, c.low) in
@@ -68,23 +69,23 @@ counting_end {n} {n'} {rows} {sum} {i} c e h m k' =
 -- ---- codewords, a row and a column a turn
 
 -- the first i rows and columns
-pub record Testing (d : Degree) (rows columns : List ℕ) (all : Bool) (i : ℕ) : Type 0 where
+pub record Testing (d : Degree) (rows columns : PackedRows) (all : Bool) (i : ℕ) : Type 0 where
   pub low : i ≤ size d
   pub done : (m : List ℕ) → IsFull d m → Held (size d) m rows → Held (size d) (transpose (size d) (size d) m) columns → all ≡ lines_to d m i
 
-pub testing_start : (d : Degree) (rows columns : List ℕ) → Testing d rows columns true 0
+pub testing_start : (d : Degree) (rows columns : PackedRows) → Testing d rows columns true 0
 testing_start d rows columns = record { low = omega arith; done = λ m a h k. refl }
 
 -- what the test of one packed line says
 abbrev Tested : Degree → Bool → Word → Type 0
 Tested d b w = (ws : List ℕ) → PacksWord (size d) ws (value w) → b ≡ is_codeword d ws
 
-line_tested : (d : Degree) {rows m : List ℕ} {i : ℕ} {l : Line} {w : Word} {b : Bool} → IsFull d m → Held (size d) m rows → i < size d → LineIn rows i l → w ≡ l.ones → Tested d b w
+line_tested : (d : Degree) {rows : PackedRows} {m : List ℕ} {i : ℕ} {l : Line} {w : Word} {b : Bool} → IsFull d m → Held (size d) m rows → i < size d → LineIn rows i l → w ≡ l.ones → Tested d b w
     → b ≡ is_codeword d (line (size d) m i)
 line_tested d {rows} {m} {i} a h p f o t =
     t (line (size d) m i) (record { room = size_room d; cells = line_cells (size d) (size d) i a p; ones = ap value o ∙ (f (size d) m h p).ones })
 
-pub testing_next : {d : Degree} {rows columns : List ℕ} {across down : Bool} {i n : ℕ} {v w : Word} {k l : Line} → Testing d rows columns true i → n ≡ size d → i < n
+pub testing_next : {d : Degree} {rows columns : PackedRows} {across down : Bool} {i n : ℕ} {v w : Word} {k l : Line} → Testing d rows columns true i → n ≡ size d → i < n
     → LineIn rows i k → v ≡ k.ones → Tested d across v → LineIn columns i l → w ≡ l.ones → Tested d down w → Testing d rows columns (across && down) (i + 1)
 testing_next {d} {rows} {columns} {across} {down} {i} c e h f o s g p t = record {
   low = omega arith;
@@ -95,7 +96,7 @@ testing_next {d} {rows} {columns} {across} {down} {i} c e h f o s g p t = record
 }
 
 -- at the end all are looked at, or the last that was is none
-pub testing_end : {d : Degree} {rows columns : List ℕ} {all : Bool} {i n : ℕ} → Testing d rows columns all i → n ≡ size d → (all ≡ false) ⊎ (n ≤ i)
+pub testing_end : {d : Degree} {rows columns : PackedRows} {all : Bool} {i n : ℕ} → Testing d rows columns all i → n ≡ size d → (all ≡ false) ⊎ (n ≤ i)
     → (m : List ℕ) → IsFull d m → Held (size d) m rows → Held (size d) (transpose (size d) (size d) m) columns → all ≡ lines_to d m (size d)
 testing_end {d} {rows} {columns} {all} {i} c e (inr h) m a u v =
     let z : i ≡ size d = omega (arith, c.low) in
@@ -111,7 +112,7 @@ testing_end {d} {rows} {columns} {all} {i} c e (inl f) m a u v =
 -- ---- the state of an array
 
 -- with cells unsure it is open
-pub told_open : (d : Degree) {rows : List ℕ} {t k : ℕ} → ((m : List ℕ) → Held (size d) m rows → k ≡ erasures m) → (k ≡ 0 → ⊥)
+pub told_open : (d : Degree) {rows : PackedRows} {t k : ℕ} → ((m : List ℕ) → Held (size d) m rows → k ≡ erasures m) → (k ≡ 0 → ⊥)
     → (m : List ℕ) → Held (size d) m rows → Told d m t (record { count = t; erasures = k; closed = false })
 unfolding closed
 told_open d e z m h =
@@ -119,7 +120,7 @@ told_open d e z m h =
     record { count = refl; erasures = q; closed = sym (ap (λ (b : Bool). b && lines_to d m (size d)) (ne_eqb (erasures m) 0 (λ y. z (q ∙ y)))) }
 
 -- with none it is closed where all rows and columns are codewords
-pub told_full : (d : Degree) {rows columns : List ℕ} {t k : ℕ} {b : Bool} → ((m : List ℕ) → Held (size d) m rows → k ≡ erasures m) → k ≡ 0
+pub told_full : (d : Degree) {rows columns : PackedRows} {t k : ℕ} {b : Bool} → ((m : List ℕ) → Held (size d) m rows → k ≡ erasures m) → k ≡ 0
     → RowsTurned (size d) rows columns → ((m : List ℕ) → IsFull d m → Held (size d) m rows → Held (size d) (transpose (size d) (size d) m) columns → b ≡ lines_to d m (size d))
     → (m : List ℕ) → Held (size d) m rows → Told d m t (record { count = t; erasures = k; closed = b })
 unfolding closed
@@ -131,7 +132,7 @@ told_full d {rows} {columns} {t} {k} {b} e z s f m h =
 -- ---- the whole decoding
 
 -- the iterations start from the array that is the channel's, its rows and columns packed; what they leave is told
-pub decoded : (d : Degree) (l : ℕ) (r w : List ℕ) {m s rows across down left : List ℕ} {count : ℕ} {t : Report} → m ≡ r → Held (size d) r across → RowsTurned (size d) across down → rows ≡ across
+pub decoded : (d : Degree) (l : ℕ) (r w : List ℕ) {m s : List ℕ} {rows across down left : PackedRows} {count : ℕ} {t : Report} → m ≡ r → Held (size d) r across → RowsTurned (size d) across down → rows ≡ across
     → ((r : List ℕ) → Started (size d) m r rows across down → StepDone (size d) (plain d l m r w) (plain_count d l m r w) s left count)
     → ((m : List ℕ) → Held (size d) m left → Told d m count t) → DecodingDone d l r w s t
 decoded d l r w {m} e h turned same run told =

@@ -24,7 +24,9 @@ use Rattle.line.proofs.Distances.{is_codeword_lem}
 use Rattle.line.proofs.CodeExamples.{four, four_zeros, four_ones}
 use Rattle.line.proofs.Examples.{zeros, word_g, p7, p7_messages, p8_messages}
 use Rattle.line.proofs.Refusing.{at_most_small, given_taken}
-use Rattle.array.specs.declared.entry.DecodeAnswer.{DecodeAnswer}
+use Rattle.std.specs.Prelude.{Result}
+use Rattle.line.specs.declared.refusals.Refusal.{Refusal}
+use Rattle.array.specs.declared.report.Report.{Report}
 use Rattle.array.specs.Arrays.{line, lines, transpose, column}
 use Rattle.array.specs.Halves.{row_half, column_half, row_count, column_count}
 use Rattle.array.specs.Plain.{fillings, plain, plain_count, closed, RowCondition}
@@ -81,8 +83,8 @@ zero_twice w =
     count_add Four zero_sheet 1 1 zero_sheet w
     ∙ rw (plain_kept Four zero_sheet zero_sent zero_sheet zero_array 1 w, zero_once w, zero_once (drop 32 w)) refl
 
--- ---- 16 rows that are document 01's P7, ones at 0 and 4 and unsure cells 6 and 7: a tie, which filling bits of 0 decide for zeros and
--- filling bits of 1 for word_g (P8)
+-- ---- 16 rows with ones at 0 and 4 and unsure cells 6 and 7: a tie, which filling bits of 0 decide for zeros and filling bits of 1 for
+-- word_g
 
 abbrev pub tied_rows : List ℕ
 tied_rows = lines (λ i. p7) 16
@@ -218,7 +220,7 @@ numbers_are p h i j k = rw (← h, ← i, ← j, ← k) refl
 
 -- of a taken call, from what the plain decoding leaves and counts
 module _ (l : ℕ) (r lent w m : List ℕ) (n : ℕ) (words : fillings lent ≡ w) (left : plain Four l r r w ≡ m) (count : plain_count Four l r r w ≡ n) where
-  promised : {before after : List ℕ} {more : List Bool} {a : DecodeAnswer} → refusal (decode_tests 4 l r lent before more) ≡ 0
+  promised : {before after : List ℕ} {more : List Bool} {a : Result Report Refusal} → refusal (decode_tests 4 l r lent before more) ≡ 0
       → DecodeDone 4 l r lent before more after a → (decode_numbers a ≡ (0, n, erasures m, closed Four m)) × (after ≡ m)
   promised {before} {after} {more} {a} taken h = (numbers_are (decode_numbers a) no sum unsure shut, cells)
     where
@@ -239,12 +241,12 @@ module _ (l : ℕ) (r lent w m : List ℕ) (n : ℕ) (words : fillings lent ≡ 
 
 -- one that leaves a sheet that has a codeword in each row and column
 promised_closed : (l : ℕ) (r lent w m : List ℕ) (n : ℕ) → fillings lent ≡ w → plain Four l r r w ≡ m → plain_count Four l r r w ≡ n → ProductCodeword Four m
-    → {before after : List ℕ} {more : List Bool} {a : DecodeAnswer} → refusal (decode_tests 4 l r lent before more) ≡ 0
+    → {before after : List ℕ} {more : List Bool} {a : Result Report Refusal} → refusal (decode_tests 4 l r lent before more) ≡ 0
     → DecodeDone 4 l r lent before more after a → (decode_numbers a ≡ (0, n, 0, true)) × (after ≡ m)
 promised_closed l r lent w m n words left count S taken h = rw (sent_known Four m S, sent_closed Four m S) at (promised l r lent w m n words left count taken h)
 
 -- cells to write of the right length, and no further slice of a wrong one
-module _ {before after : List ℕ} {more : List Bool} {a : DecodeAnswer} (long : length before ≡ 256) (fit : some more ≡ false) where
+module _ {before after : List ℕ} {more : List Bool} {a : Result Report Refusal} (long : length before ≡ 256) (fit : some more ≡ false) where
   pub tied_promised : DecodeDone 4 1 tied_rows (replicate 64 0) before more after a → (decode_numbers a ≡ (0, 64, 0, true)) × (after ≡ zero_sheet)
   unfolding decode_tests at_most lines
   tied_promised h = promised_closed 1 tied_rows (replicate 64 0) zero_words zero_sheet 64 (fillings_zeros 32) tied_left tied_count zero_sent (rw (long, fit) refl) h
@@ -271,7 +273,7 @@ module _ {before after : List ℕ} {more : List Bool} {a : DecodeAnswer} (long :
 
 abbrev Refuses : (l : ℕ) (r : List ℕ) → ℕ → Type 0
 Refuses l r n =
-    (after : List ℕ) (a : DecodeAnswer) → DecodeDone 4 l r (replicate 64 0) (replicate 256 7) [] after a → (decode_numbers a ≡ (n, 0, 0, false)) × (after ≡ replicate 256 7)
+    (after : List ℕ) (a : Result Report Refusal) → DecodeDone 4 l r (replicate 64 0) (replicate 256 7) [] after a → (decode_numbers a ≡ (n, 0, 0, false)) × (after ≡ replicate 256 7)
 
 -- no iterations; a cell too few; a cell 3
 pub decode_refused : Refuses 0 zero_sheet 2 × Refuses 1 (replicate 255 0) 3 × Refuses 1 (set zero_sheet 9 3) 4

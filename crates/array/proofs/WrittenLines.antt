@@ -3,7 +3,7 @@
 use mathlib.Core.Path.{◌≡◌, refl, sym, ap, ap₂, ◌∙◌}
 use mathlib.Core.List.{List, ◌++◌, append_assoc, append-nil}
 use Prim.Native.Nat.{ℕ, ◌+◌, ◌-◌, ◌*◌, ◌<◌, ◌≤◌}
-use native.Mathlib.Nat.{zero-mul, add-zero, add-sub_cancel_left, mul-le-mul_right}
+use native.Mathlib.Nat.{add-sub_cancel_left, mul-le-mul_right}
 use native.Mathlib.Numerals.{add-one}
 use native.Mathlib.Omega.{arith}
 use borrow.Rule.Slice.PartMut.{put_mid}
@@ -55,65 +55,54 @@ written_all old text e = ap (λ (x : List ℕ). text ++ x) (drop_of_length-le ol
 
 -- ---- lines
 
--- from `start` on, the first i of k lines of n cells are new and all else is as it was; the next one's place is `at`
-pub record Lining (n : ℕ) (g : ℕ → List ℕ) (k start : ℕ) (old new : List ℕ) (i at : ℕ) : Type 0 where
+-- the first i of k lines of n cells are new and all else is as it was
+pub record Lining (n : ℕ) (g : ℕ → List ℕ) (k : ℕ) (old new : List ℕ) (i : ℕ) : Type 0 where
   pub even : Even n g k
-  pub room : start + k * n ≤ length old
+  pub room : k * n ≤ length old
   pub low : i ≤ k
-  pub place : at ≡ start + i * n
-  pub so_far : new ≡ written old start (lines g i)
+  pub so_far : new ≡ written old 0 (lines g i)
 
-module _ {n : ℕ} {g : ℕ → List ℕ} {k start : ℕ} {old : List ℕ} where
-  pub lining_start : Even n g k → start + k * n ≤ length old → Lining n g k start old old 0 start
+module _ {n : ℕ} {g : ℕ → List ℕ} {k : ℕ} {old : List ℕ} where
+  pub lining_start : Even n g k → k * n ≤ length old → Lining n g k old old 0
   unfolding lines
-  lining_start even h = record {
-    even = even;
-    room = h;
-    low = omega arith;
-    place = omega (arith, zero-mul n);
-    so_far = rw (add-zero start) (sym (take-append-drop start old));
-  }
+  lining_start even h = record { even = even; room = h; low = omega arith; so_far = sym (take-append-drop 0 old) }
 
-  module _ {new : List ℕ} {i at : ℕ} (w : Lining n g k start old new i at) where
+  module _ {new : List ℕ} {i : ℕ} (w : Lining n g k old new i) where
     lines_length : length (lines g i) ≡ i * n
     lines_length = length_lines n g i (λ j q. w.even j (omega (arith, w.low)))
 
-    lining_within : start + length (lines g i) ≤ length old
+    lining_within : 0 + length (lines g i) ≤ length old
     lining_within = omega (arith, lines_length, w.room, mul-le-mul_right {m = i} {n = k} n w.low)
 
     pub lining_length : length new ≡ length old
-    lining_length = ap length w.so_far ∙ written_length old start (lines g i) lining_within
+    lining_length = ap length w.so_far ∙ written_length old 0 (lines g i) lining_within
 
-    -- line i lies among the lines, and within the slice
-    pub lining_room : i < k → at + n ≤ start + k * n
-    lining_room h = omega (arith, w.place, line_room k n i h)
+    -- line i lies within the slice
+    pub lining_free : i < k → i * n + n ≤ length new
+    lining_free h = omega (arith, line_room k n i h, w.room, lining_length)
 
-    pub lining_free : i < k → at + n ≤ length new
-    lining_free h = omega (arith, lining_room h, w.room, lining_length)
+    pub lining_part : i < k → length (take (i * n + n - i * n) (drop (i * n) new)) ≡ n
+    lining_part h = part_length (i * n) n new (lining_free h)
 
-    pub lining_part : i < k → length (take (at + n - at) (drop at new)) ≡ n
-    lining_part h = part_length at n new (lining_free h)
-
-    pub lining_next : {new' : List ℕ} → i < k → new' ≡ written new at (g i) → Lining n g k start old new' (i + 1) (at + n)
+    pub lining_next : {new' : List ℕ} → i < k → new' ≡ written new (i * n) (g i) → Lining n g k old new' (i + 1)
     unfolding lines
     lining_next h e = record {
       even = w.even;
       room = w.room;
       low = omega arith;
-      place = omega (arith, w.place);
       so_far =
-          let here : at ≡ start + length (lines g i) = omega (arith, w.place, lines_length) in
-          e ∙ rw (here, w.so_far, add-one i) (written_then old start (lines g i) lining_within (g i));
+          let here : i * n ≡ 0 + length (lines g i) = omega (arith, lines_length) in
+          e ∙ rw (here, w.so_far, add-one i) (written_then old 0 (lines g i) lining_within (g i));
     }
 
     -- what is put into the place of line i, which comes back between the parts that were not lent
-    pub lining_put : i < k → (y : List ℕ) → y ≡ g i → Lining n g k start old (put_mid at (at + n - at) new y) (i + 1) (at + n)
-    lining_put h y e = lining_next h (rw (e, w.even i h, add-sub_cancel_left at n, drop-drop n at new) refl)
+    pub lining_put : i < k → (y : List ℕ) → y ≡ g i → Lining n g k old (put_mid (i * n) (i * n + n - i * n) new y) (i + 1)
+    lining_put h y e = lining_next h (rw (e, w.even i h, add-sub_cancel_left (i * n) n, drop-drop n (i * n) new) refl)
 
-    pub lining_end : k ≤ i → new ≡ written old start (lines g k)
-    lining_end h = let e : i ≡ k = omega (arith, w.low) in w.so_far ∙ ap (λ (x : ℕ). written old start (lines g x)) e
+    pub lining_end : k ≤ i → new ≡ written old 0 (lines g k)
+    lining_end h = let e : i ≡ k = omega (arith, w.low) in w.so_far ∙ ap (λ (x : ℕ). written old 0 (lines g x)) e
 
 -- a slice that is lines from end to end
-pub lining_all : {n : ℕ} {g : ℕ → List ℕ} {k : ℕ} {old new : List ℕ} {i at : ℕ} → Lining n g k 0 old new i at → length old ≡ k * n → k ≤ i → new ≡ lines g k
+pub lining_all : {n : ℕ} {g : ℕ → List ℕ} {k : ℕ} {old new : List ℕ} {i : ℕ} → Lining n g k old new i → length old ≡ k * n → k ≤ i → new ≡ lines g k
 lining_all {n} {g} {k} {old} w l h =
     lining_end w h ∙ written_all old (lines g k) (length_lines n g k w.even ∙ sym l)

@@ -2,14 +2,14 @@
 ghost use Rattle.std.specs.Prelude.{◌≡◌, ◌*◌, length};
 ghost use Rattle.degree.specs.Degree.{size};
 ghost use Rattle.line.specs.Encoding.{message_size};
+ghost use Rattle.line.specs.Refusals.{refusal_of};
 ghost use Rattle.array.specs.Encoding.{extracted};
 ghost use Rattle.array.specs.Entries.{Extracted};
 
 use crate::refusals::coding_test;
 use degree::{Degree, size_of};
 use line::packed::Line;
-use line::refusals::{Call, number_of};
-use words::copying::copy_cells;
+use line::refusals::Refusal;
 
 // The message cells, row after row.
 fn extract_message(d: Degree, cells: &[u8], message: &mut [u8])
@@ -19,28 +19,18 @@ fn extract_message(d: Degree, cells: &[u8], message: &mut [u8])
     let n = size_of(d);
     let k = Line::message_cells(d);
     let p = Line::check_cells(d);
-    let mut i = 0;
-    let mut from = p * n + p;
-    let mut to = 0;
-    while i < k {
-        copy_cells(&cells[from..from + k], &mut message[to..to + k]);
-        from += n;
-        to += k;
-        i += 1;
+    for i in 0..k {
+        let from = (p + i) * n + p;
+        let to = i * k;
+        message[to..to + k].copy_from_slice(&cells[from..from + k]);
     }
 }
 
-// Entry: copies the message cells of the n by n cells into the message of k by k cells, and returns the refusal number, 0 for
-// none.
-pub fn extract(degree: u64, cells: &[u8], message: &mut [u8]) -> u64
-    ensures { Extracted degree cells.now message.old message.new result }
+// Entry: copies the message cells of the n by n cells into the message of k by k cells.
+pub fn extract(degree: u64, cells: &[u8], message: &mut [u8]) -> Result<(), Refusal>
+    ensures { Extracted degree cells.now message.old message.new (refusal_of result) }
 {
-    let call = coding_test(degree, message, cells, 2, cells);
-    match call {
-        Call::Taken(d) => {
-            extract_message(d, cells, message);
-            0
-        }
-        Call::Refused(why) => number_of(why),
-    }
+    let d = coding_test(degree, message, cells, 2, cells)?;
+    extract_message(d, cells, message);
+    Ok(())
 }

@@ -1,57 +1,68 @@
-// The rows of an array packed in words. Only the look-up of a line, its writing and the transpose know where a line's words stand.
-ghost use Rattle.std.specs.Prelude.{◌≡◌, ◌*◌, ◌<◌, replicate};
+// The rows of an array packed in words.
+ghost use Rattle.std.specs.Prelude.{◌<◌};
 ghost use Rattle.degree.specs.Degree.{size};
-ghost use Rattle.words.specs.Working.Grid.{grid_size};
 ghost use Rattle.words.specs.Working.Word.{width};
-ghost use Rattle.array.specs.Working.PackedRows.{Held, LineIn, LinePut, RowsTurned};
+ghost use Rattle.array.specs.Working.PackedRows.{Held, Empty, LineIn, LinePut, RowsTurned};
 ghost use Rattle.array.specs.Working.Steps.{IsArray};
 
 use degree::{Degree, size_of};
-use line::packed::{Line, erased_of, ones_of, pack};
-use words::word::grid::{GRID, put_word, transpose_grid, word_in};
+use line::packed::Line;
+use words::word::grid::Grid;
 
-// Two grids of words: the ones of the rows, and behind them their erasures.
-pub type PackedRows = [u64; 2 * GRID];
-
-// Line i of packed rows.
-pub fn line_in(rows: &PackedRows, i: usize) -> Line
-    requires { i < width }
-    ensures { LineIn rows.now i result }
-{
-    Line::new(word_in(rows, 0, i), word_in(rows, GRID, i))
+// The words of all rows: their ones, and their erasures.
+#[derive(Clone, Copy)]
+pub struct PackedRows {
+    ones: Grid,
+    erased: Grid,
 }
 
-// Line i of packed rows made another.
-pub fn put_line(rows: &mut PackedRows, i: usize, l: Line)
-    requires { i < width }
-    ensures { LinePut rows.old i l rows.new }
-{
-    put_word(rows, 0, i, ones_of(l));
-    put_word(rows, GRID, i, erased_of(l));
-}
+impl PackedRows {
+    // No cell is packed yet.
+    pub fn empty() -> PackedRows
+        ensures { Empty result }
+    {
+        PackedRows {
+            ones: Grid::zero(),
+            erased: Grid::zero(),
+        }
+    }
 
-// Packed rows become the packed columns.
-pub fn transpose_rows(d: Degree, rows: &mut PackedRows)
-    ensures { RowsTurned (size d) rows.old rows.new }
-{
-    let n = size_of(d);
-    transpose_grid(rows, 0, n);
-    transpose_grid(rows, GRID, n);
-}
+    // Line i.
+    pub fn line(&self, i: usize) -> Line
+        requires { i < width }
+        ensures { LineIn self.now i result }
+    {
+        Line::new(self.ones.word(i), self.erased.word(i))
+    }
 
-// The rows of an array packed, into words that are 0.
-pub fn pack_rows(d: Degree, cells: &[u8], rows: &mut PackedRows)
-    requires { IsArray d cells.now × (rows.old ≡ replicate (2 * grid_size) 0) }
-    ensures { Held (size d) cells.now rows.new }
-{
-    let n = size_of(d);
-    let mut i = 0;
-    let mut at = 0;
-    while i < n {
-        let end = at + n;
-        let l = pack(&cells[at..end]);
-        put_line(rows, i, l);
-        at = end;
-        i += 1;
+    // Line i is made another.
+    pub fn put(&mut self, i: usize, l: Line)
+        requires { i < width }
+        ensures { LinePut self.old i l self.new }
+    {
+        self.ones.put(i, l.ones);
+        self.erased.put(i, l.erased);
+    }
+
+    // The rows of an array are packed, into words that are 0.
+    pub fn pack(&mut self, d: Degree, cells: &[u8])
+        requires { IsArray d cells.now × Empty self.old }
+        ensures { Held (size d) cells.now self.new }
+    {
+        let n = size_of(d);
+        for i in 0..n {
+            let at = i * n;
+            let l = Line::pack(&cells[at..at + n]);
+            self.put(i, l);
+        }
+    }
+
+    // Rows become columns.
+    pub fn transpose(&mut self, d: Degree)
+        ensures { RowsTurned (size d) self.old self.new }
+    {
+        let n = size_of(d);
+        self.ones.transpose(n);
+        self.erased.transpose(n);
     }
 }

@@ -4,46 +4,48 @@ ghost use Rattle.degree.specs.Degree.{bits};
 ghost use Rattle.line.specs.Working.Calls.{Tested};
 ghost use Rattle.array.specs.Refusals.{coding_tests, row_tests, decode_tests};
 
-use degree::{Degree, Named, degree_of, size_of};
+use degree::{Degree, size_of};
 use line::packed::Line;
-use line::refusals::{Call, Refusal, lent_test};
+use line::refusals::{Refusal, lent_test};
 
 // A call that lends a message and an array, and reads one of them.
-pub fn coding_test(degree: u64, message: &[u8], cells: &[u8], bound: u8, read: &[u8]) -> Call
+pub fn coding_test(
+    degree: u64,
+    message: &[u8],
+    cells: &[u8],
+    bound: u8,
+    read: &[u8],
+) -> Result<Degree, Refusal>
     ensures { Tested degree (coding_tests bound degree message.now cells.now read.now) result }
 {
-    let named = degree_of(degree);
-    match named {
-        Named::Known(d) => {
-            let n = size_of(d);
-            let k = Line::message_cells(d);
-            let wrong = (message.len() != k * k) | (cells.len() != n * n);
-            lent_test(d, wrong, bound, read)
-        }
-        Named::Unknown => Call::Refused(Refusal::BadDegree),
-    }
+    let d = Degree::try_from(degree)?;
+    let n = size_of(d);
+    let k = Line::message_cells(d);
+    let wrong = (message.len() != k * k) | (cells.len() != n * n);
+    lent_test(d, wrong, bound, read)
 }
 
-pub fn row_test(degree: u64, cells: &[u8], index: usize) -> Call
+pub fn row_test(degree: u64, cells: &[u8], index: usize) -> Result<Degree, Refusal>
     ensures { Tested degree (row_tests degree cells.now index []) result }
 {
-    let named = degree_of(degree);
-    match named {
-        Named::Known(d) => {
-            let n = size_of(d);
-            let wrong = (cells.len() != n * n) | (n <= index);
-            lent_test(d, wrong, 2, cells)
-        }
-        Named::Unknown => Call::Refused(Refusal::BadDegree),
-    }
+    let d = Degree::try_from(degree)?;
+    let n = size_of(d);
+    let wrong = (cells.len() != n * n) | (n <= index);
+    lent_test(d, wrong, 2, cells)
 }
 
 // The tests of decode at a degree. The lengths are reckoned only for few iterations, so that they fit a number.
-fn known_test(d: Degree, iterations: u64, received: &[u8], filling: &[u64], cells: &[u8]) -> Call
+fn known_test(
+    d: Degree,
+    iterations: u64,
+    received: &[u8],
+    filling: &[u64],
+    cells: &[u8],
+) -> Result<Degree, Refusal>
     ensures { Tested (bits d) (decode_tests (bits d) iterations received.now filling.now cells.now []) result }
 {
     if (iterations == 0) | (20 < iterations) {
-        Call::Refused(Refusal::BadIterations)
+        Err(Refusal::BadIterations)
     } else {
         let n = size_of(d);
         let numbers = 4 * (iterations as usize) * n;
@@ -59,12 +61,9 @@ pub fn decode_test(
     received: &[u8],
     filling: &[u64],
     cells: &[u8],
-) -> Call
+) -> Result<Degree, Refusal>
     ensures { Tested degree (decode_tests degree iterations received.now filling.now cells.now []) result }
 {
-    let named = degree_of(degree);
-    match named {
-        Named::Known(d) => known_test(d, iterations, received, filling, cells),
-        Named::Unknown => Call::Refused(Refusal::BadDegree),
-    }
+    let d = Degree::try_from(degree)?;
+    known_test(d, iterations, received, filling, cells)
 }

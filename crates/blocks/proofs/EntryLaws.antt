@@ -11,8 +11,7 @@ use Rattle.line.specs.declared.refusals.Refusal.{Refusal}
 use Rattle.line.specs.Cells.{Cells}
 use Rattle.line.specs.Refusals.{number, refusal, unless_refused, misfit, at_most}
 use Rattle.line.proofs.Refusing.{cells_small, some_none, fits, some_number, none_applies, unless_taken, unless_refused_lem}
-use Rattle.blocks.specs.declared.entry.ReadAnswer.{ReadAnswer}
-use Rattle.blocks.specs.declared.entry.ReadAnswer.TheVariants.{Refused}
+use Rattle.std.specs.Prelude.{Result, Ok, Err}
 use Rattle.blocks.specs.declared.reading.Found.{Found}
 use Rattle.blocks.specs.Blocks.{file_of, sheet_number, sheet_in, is_file}
 use Rattle.blocks.specs.Entries.{read_tests, write_tests, read_numbers, ReadDone, WriteDone}
@@ -58,7 +57,7 @@ module _ (f before sheet : List ℕ) (found : Found) (lf : length f ≡ 1536) (l
       go true false z asked refused = refl
       go false y z asked refused = refl
 
-  pub read_answered : {after : List ℕ} {a : ReadAnswer} → after ≡ cond ((found.formed && found.summed) && found.sound) sheet before → Answers found a
+  read_answered : {after : List ℕ} {a : Result ℕ Refusal} → after ≡ cond ((found.formed && found.summed) && found.sound) sheet before → Answers found a
       → ReadDone f before [] after a
   read_answered {after} {a} handed told =
       let number-told : (read_numbers a).1 ≡ unless_refused (read_tests f before []) (sheet_number f) 0 =
@@ -81,10 +80,21 @@ module _ (f before sheet : List ℕ) (found : Found) (lf : length f ≡ 1536) (l
             r.bytes);
       }
 
+  -- a file that is taken is handed over, one that is refused is not
+  pub read_taken : {s : ℕ} → Answers found (Ok s) → ReadDone f before [] sheet (Ok s)
+  read_taken told =
+      let z : refusal (read_tests f before []) ≡ 0 = tests_are ∙ sym (ap (λ (p : ℕ × ℕ). p.0) told) in
+      read_answered (sym (unless_found sheet before ∙ unless_taken (read_tests f before []) sheet before z)) told
+
+  pub read_refused : (why : Refusal) → Answers found (Err why) → ReadDone f before [] before (Err why)
+  read_refused why told =
+      let n : number why ≡ refusal (read_tests f before []) = ap (λ (p : ℕ × ℕ). p.0) told ∙ sym tests_are in
+      read_answered (sym (unless_found sheet before ∙ unless_refused_lem (read_tests f before []) sheet before (λ z. some_number why (n ∙ z)))) told
+
 -- ---- a read that is refused for a length
 
 module _ (f before : List ℕ) (why : Refusal) (e : number why ≡ refusal (read_tests f before [])) where
-  pub refused_at_once : ReadDone f before [] before (Refused why)
+  pub refused_at_once : ReadDone f before [] before (Err why)
   refused_at_once = record {
     refusal = e;
     number = sym (unless_refused_lem (read_tests f before []) (sheet_number f) 0 (λ z. some_number why (e ∙ z)));

@@ -10,7 +10,8 @@ use lib.ListN.{take, replicate, set}
 use Rattle.line.specs.Cells.{cell}
 use Rattle.line.specs.Refusals.{refusal, at_most}
 use Rattle.array.specs.Arrays.{lines}
-use Rattle.blocks.specs.declared.entry.ReadAnswer.{ReadAnswer}
+use Rattle.std.specs.Prelude.{Result}
+use Rattle.line.specs.declared.refusals.Refusal.{Refusal}
 use Rattle.blocks.specs.Blocks.{packed, content, fletcher, block_of, file_of, is_file, formed, summed, sound, unpacked, sheet_in}
 use Rattle.blocks.specs.Entries.{read_tests, write_tests, read_numbers, ReadDone, WriteDone}
 
@@ -114,7 +115,7 @@ table = refl
 -- ---- what the reader and the writer promise: the refusal and the sheet number, and every cell or byte
 
 abbrev ReadTells : (f : List ℕ) → ℕ × ℕ → List ℕ → Type 0
-ReadTells f n left = (after : List ℕ) (a : ReadAnswer) → ReadDone f (replicate 4096 7) [] after a → (read_numbers a ≡ n) × (after ≡ left)
+ReadTells f n left = (after : List ℕ) (a : Result ℕ Refusal) → ReadDone f (replicate 4096 7) [] after a → (read_numbers a ≡ n) × (after ≡ left)
 
 -- the file of a sheet of zeros with the number 4660, which is 18 and 52
 abbrev blank_file : List ℕ

@@ -2,16 +2,21 @@
 -- Assumes nothing.
 use mathlib.Core.Path.{◌≡◌, refl, sym, ap, ◌∙◌}
 use mathlib.Core.List.{List, [], ◌∷◌, ◌++◌, append_assoc}
-use Prim.Native.Nat.{ℕ, zero, suc, ◌+◌, ◌*◌, ◌%◌, ◌<◌, ◌≤◌}
+use Prim.Native.Nat.{ℕ, zero, suc, ◌+◌, ◌*◌, ◌<◌, ◌≤◌}
 use native.Mathlib.Numerals.{add-one}
 use native.Mathlib.Omega.{arith}
-use lib.ListN.{length, get_or, take, drop, set, replicate, length-append, length-replicate, get_or-replicate, get_or-append}
-use lib.Seq.{sets, sets-eq, take-suc, take_all, length-take-le, get_or_at, get_or-append-add}
+use mathlib.Core.Bool.{Bool, true, ◌&&◌}
+use lib.Dec.{eqb, leb}
+use Rattle.std.proofs.lemmas.Bool.Decides.{nat_tests}
+use Rattle.line.specs.Refusals.{at_most}
+use Rattle.line.proofs.Refusing.{at_most_push}
+use lib.ListN.{length, get_or, take, drop, set}
+use lib.Seq.{sets, sets-eq, take-suc, take_all, length-take-le}
 use Rattle.line.specs.Cells.{cell}
 use Rattle.words.specs.Working.Bytes.{joined, bytes_of}
 use Rattle.array.proofs.WrittenLines.{written, written_then, written_length, written_all}
 use Rattle.blocks.specs.declared.sums.Sums.{Sums}
-use Rattle.blocks.specs.Working.Adding.{Bytes, both, added, Room, end_of}
+use Rattle.blocks.specs.Working.Adding.{Bytes, both, added, Room}
 use Rattle.blocks.specs.Blocks.{unpacked}
 use Rattle.blocks.proofs.AddingLaws.{added_next, room_fewer, room_added}
 use Rattle.blocks.proofs.PackedCells.{length_unpacked, unpacked_next, four_bytes}
@@ -51,6 +56,19 @@ module _ {xs : List ℕ} {start s : Sums} {i : ℕ} (w : Summing xs start s i) w
   -- all were added
   pub summing_end : length xs ≤ i → (both s ≡ added (both start) xs) × Bytes xs
   summing_end h = (rw (take_all i xs h) at w.sums, rw (take_all i xs h) at w.small)
+
+-- ---- bytes that are all 0
+
+zero_least : (x : ℕ) → eqb x 0 ≡ leb x 0
+zero_least x = grind (arith, nat_tests)
+
+pub zeros_start : (xs : List ℕ) → true ≡ at_most 0 (take 0 xs)
+unfolding at_most
+zeros_start xs = refl
+
+pub zeros_next : (xs : List ℕ) (i : ℕ) {zero : Bool} → i < length xs → zero ≡ at_most 0 (take i xs) → (zero && eqb (get_or xs i 0) 0) ≡ at_most 0 (take (i + 1) xs)
+zeros_next xs i h e =
+    rw (e, zero_least (get_or xs i 0), add-one i, take-suc xs i 0 h) (sym (at_most_push 0 (take i xs) (get_or xs i 0)))
 
 -- ---- what was written
 
@@ -141,34 +159,3 @@ take_four (a ∷ []) h = absurd (omega arith)
 take_four (a ∷ b ∷ []) h = absurd (omega arith)
 take_four (a ∷ b ∷ c ∷ []) h = absurd (omega arith)
 take_four (a ∷ b ∷ c ∷ e ∷ l) h = refl
-
-pub put_four_bytes : (l : List ℕ) (a b c e : ℕ) → 4 ≤ length l → set (set (set (set l 0 a) 1 b) 2 c) 3 e ≡ a ∷ b ∷ c ∷ e ∷ drop 4 l
-put_four_bytes [] a b c e h = absurd (omega arith)
-put_four_bytes (x ∷ []) a b c e h = absurd (omega arith)
-put_four_bytes (x ∷ y ∷ []) a b c e h = absurd (omega arith)
-put_four_bytes (x ∷ y ∷ z ∷ []) a b c e h = absurd (omega arith)
-put_four_bytes (x ∷ y ∷ z ∷ u ∷ l) a b c e h = refl
-
--- ---- the end of a block: zeros and two sums
-
-module _ (s : ℕ × ℕ) (n : ℕ) where
-  pub end_long : length (end_of s n) ≡ n + 2
-  end_long = length-append (replicate n 0) ((added s (replicate n 0)).0 % 255 ∷ (added s (replicate n 0)).1 % 255 ∷ []) ∙ omega (arith, length-replicate {A = ℕ} n 0)
-
-  pub end_zero : (i : ℕ) → i < n → 0 ≡ get_or (end_of s n) i 0
-  end_zero i h =
-      sym
-      (get_or-append (replicate n 0) ((added s (replicate n 0)).0 % 255 ∷ (added s (replicate n 0)).1 % 255 ∷ []) 0 i (rw (length-replicate {A = ℕ} n 0) h)
-      ∙ get_or-replicate n i 0 0 h)
-
-  -- the two sums behind n zeros
-  pub end_put : {old new : List ℕ} {i a b : ℕ} → Putting (end_of s n) old new i → i ≡ n → a ≡ (added s (replicate n 0)).0 % 255 → b ≡ (added s (replicate n 0)).1 % 255
-      → set (set new n a) (n + 1) b ≡ end_of s n
-  end_put {a} {b} w e ea eb =
-      let first : get_or (end_of s n) n 0 ≡ (added s (replicate n 0)).0 % 255 =
-      get_or_at (replicate n 0) ((added s (replicate n 0)).0 % 255) ((added s (replicate n 0)).1 % 255 ∷ []) 0 n (length-replicate n 0) in
-      let second : get_or (end_of s n) (n + 1) 0 ≡ (added s (replicate n 0)).1 % 255 =
-      rw (length-replicate {A = ℕ} n 0) at (get_or-append-add (replicate n 0) ((added s (replicate n 0)).0 % 255 ∷ (added s (replicate n 0)).1 % 255 ∷ []) 1 0) in
-      let one = putting_next (rw e at w) a (ea ∙ sym first) (rw end_long (omega arith)) in
-      let both = putting_next one b (eb ∙ sym second) (rw end_long (omega arith)) in
-      putting_end both (rw end_long (omega arith))

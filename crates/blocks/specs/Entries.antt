@@ -1,9 +1,8 @@
 -- What the reader and the writer promise: the answer in numbers, and every lent cell or byte at exit, for taken and refused calls alike.
-use Rattle.std.specs.Prelude.{◌≡◌, Bool, not, List, [], ◌∷◌, ℕ, length}
+use Rattle.std.specs.Prelude.{◌≡◌, Bool, not, List, [], ◌∷◌, ℕ, length, Result, Ok, Err}
 use Rattle.laws.specs.Tests.{every}
+use Rattle.line.specs.declared.refusals.Refusal.{Refusal}
 use Rattle.line.specs.Refusals.{number, refusal, unless_refused, misfit, some, at_most}
-use Rattle.blocks.specs.declared.entry.ReadAnswer.{ReadAnswer}
-use Rattle.blocks.specs.declared.entry.ReadAnswer.TheVariants as answer
 use Rattle.blocks.specs.Blocks.{file_of, sheet_number, sheet_in, is_file, summed, sound, block}
 
 -- ---- the tests. `more` says of further lent slices whether their length is wrong.
@@ -25,13 +24,13 @@ write_tests cells f =
 
 -- ---- the answer of the reader: the refusal, 0 for none; the sheet number
 
-abbrev pub read_numbers : ReadAnswer → ℕ × ℕ
-read_numbers (answer.Refused why) = (number why, 0)
-read_numbers (answer.Read s) = (0, s)
+abbrev pub read_numbers : Result ℕ Refusal → ℕ × ℕ
+read_numbers (Err why) = (number why, 0)
+read_numbers (Ok s) = (0, s)
 
 -- ---- the promises
 
-pub record ReadDone (f before : List ℕ) (more : List Bool) (after : List ℕ) (a : ReadAnswer) : Type 0 where
+pub record ReadDone (f before : List ℕ) (more : List Bool) (after : List ℕ) (a : Result ℕ Refusal) : Type 0 where
   pub refusal : (read_numbers a).0 ≡ refusal (read_tests f before more)
   pub number : (read_numbers a).1 ≡ unless_refused (read_tests f before more) (sheet_number f) 0
   pub cells : after ≡ unless_refused (read_tests f before more) (sheet_in f) before

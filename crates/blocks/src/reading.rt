@@ -7,11 +7,12 @@ ghost use Rattle.blocks.specs.Working.Adding.{both, added, Room, Bytes};
 ghost use Rattle.blocks.specs.Working.Found.{BlockRead, PartRead, FileRead};
 
 use crate::cells::{four_cells, rows_in};
-use crate::sums::{Sums, add_byte, header_sums, reduced};
+use crate::sums::{Sums, reduced};
 use line::refusals::at_most;
 use words::bytes::put_four;
 
-// What is found in a block, or in all: the sheet number, and whether tests 5, 6 and 7 are passed.
+// What is found in a block, or in all: the sheet number, and whether tests 5, 6 and 7 are passed. A block's first fault would not do
+// for the three, since each test is made of all blocks before the next.
 #[derive(Clone, Copy)]
 pub struct Found {
     pub number: u16,
@@ -36,9 +37,9 @@ fn read_header(block: usize, bytes: &[u8]) -> Header
     let degree = bytes[1];
     let high = bytes[2];
     let low = bytes[3];
-    let sums = header_sums(index, degree, high, low);
-    let number = high as u16 * 256 + low as u16;
-    let formed = (index as usize == block) & (degree == 6);
+    let sums = Sums::of_header(index, degree, high, low);
+    let number = u16::from_be_bytes([high, low]);
+    let formed = (usize::from(index) == block) & (degree == 6);
     Header {
         number,
         formed,
@@ -52,16 +53,14 @@ fn read_rows(sums: Sums, bytes: &[u8], cells: &mut [u8]) -> Sums
     ensures { (both result ≡ added (both sums) bytes.now) × (cells.new ≡ unpacked bytes.now) × Bytes bytes.now }
 {
     let mut so_far = sums;
-    let mut i = 0;
-    while i < bytes.len() {
-        let byte = bytes[i];
-        put_four(cells, 4 * i, four_cells(byte));
-        so_far = add_byte(so_far, byte);
-        i += 1;
+    for (i, byte) in bytes.iter().enumerate() {
+        put_four(cells, 4 * i, four_cells(*byte));
+        so_far = so_far.with_byte(*byte);
     }
     so_far
 }
 
+// The sums go on whether or not the bytes are 0, so this is no Option of them.
 #[derive(Clone, Copy)]
 struct Filler {
     sums: Sums,
@@ -75,12 +74,9 @@ fn read_filler(sums: Sums, bytes: &[u8]) -> Filler
 {
     let mut so_far = sums;
     let mut zero = true;
-    let mut i = 0;
-    while i < bytes.len() {
-        let byte = bytes[i];
-        zero = zero & (byte <= 0);
-        so_far = add_byte(so_far, byte);
-        i += 1;
+    for byte in bytes {
+        zero = zero & (*byte == 0);
+        so_far = so_far.with_byte(*byte);
     }
     Filler { sums: so_far, zero }
 }
@@ -119,6 +115,8 @@ fn in_all(first: Found, second: Found, third: Found) -> Found
         sound: first.sound & second.sound & third.sound,
     }
 }
+
+// Which block it is and how long a file and a sheet are is asked; as an enum a block would be made its number again for each place.
 
 // A block of a file, whose rows go to their place among the cells of the sheet.
 fn read_part(block: usize, file: &[u8], cells: &mut [u8]) -> Found

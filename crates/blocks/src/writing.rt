@@ -5,7 +5,7 @@ ghost use Rattle.blocks.specs.Blocks.{packed, block_of, file_of};
 ghost use Rattle.blocks.specs.Working.Adding.{both, added, Room, head_of, end_of};
 
 use crate::cells::{packed_byte, rows_in};
-use crate::sums::{Sums, add_byte, add_zeros, header_sums, reduced};
+use crate::sums::{Sums, reduced};
 
 // Bytes 0 to 3.
 fn write_header(block: usize, number: u16, bytes: &mut [u8]) -> Sums
@@ -13,13 +13,9 @@ fn write_header(block: usize, number: u16, bytes: &mut [u8]) -> Sums
     ensures { (bytes.new ≡ head_of block number ++ drop 4 bytes.old) × (both result ≡ added (0, 0) (head_of block number)) }
 {
     let index = block as u8;
-    let high = (number / 256) as u8;
-    let low = (number % 256) as u8;
-    bytes[0] = index;
-    bytes[1] = 6;
-    bytes[2] = high;
-    bytes[3] = low;
-    header_sums(index, 6, high, low)
+    let [high, low] = number.to_be_bytes();
+    bytes[..4].copy_from_slice(&[index, 6, high, low]);
+    Sums::of_header(index, 6, high, low)
 }
 
 // The rows, four cells to a byte: as many of the cells as there are bytes for.
@@ -28,12 +24,10 @@ fn write_rows(sums: Sums, cells: &[u8], bytes: &mut [u8]) -> Sums
     ensures { (bytes.new ≡ packed (length bytes.old) cells.now) × (both result ≡ added (both sums) bytes.new) }
 {
     let mut so_far = sums;
-    let mut i = 0;
-    while i < bytes.len() {
-        let byte = packed_byte(cells, 4 * i);
-        bytes[i] = byte;
-        so_far = add_byte(so_far, byte);
-        i += 1;
+    for (i, byte) in bytes.iter_mut().enumerate() {
+        let packed = packed_byte(cells, 4 * i);
+        *byte = packed;
+        so_far = so_far.with_byte(packed);
     }
     so_far
 }
@@ -44,12 +38,8 @@ fn write_end(sums: Sums, bytes: &mut [u8])
     ensures { bytes.new ≡ end_of (both sums) (length bytes.old - 2) }
 {
     let many = bytes.len() - 2;
-    let mut i = 0;
-    while i < many {
-        bytes[i] = 0;
-        i += 1;
-    }
-    let all = add_zeros(sums, many);
+    bytes[..many].fill(0);
+    let all = sums.with_zeros(many);
     bytes[many] = reduced(all.a);
     bytes[many + 1] = reduced(all.b);
 }
@@ -70,12 +60,8 @@ pub fn write_file(number: u16, cells: &[u8], file: &mut [u8])
     requires { Cells 3 4096 cells.now × (length file.old ≡ 1536) }
     ensures { file.new ≡ file_of number cells.now }
 {
-    let mut block = 0;
-    let mut at = 0;
-    while block < 3 {
-        let end = at + 512;
-        write_block(block, number, cells, &mut file[at..end]);
-        at = end;
-        block += 1;
+    for block in 0..3 {
+        let at = block * 512;
+        write_block(block, number, cells, &mut file[at..at + 512]);
     }
 }

@@ -2,36 +2,57 @@
 #![tactic(auto)]
 
 ghost use Rattle.std.specs.Prelude.{◌≡◌};
-ghost use Rattle.degree.specs.Degree.{size, order, named};
+ghost use Rattle.degree.specs.Degree.{bits, size, order, Names};
+
+use std::error::Error;
+use std::fmt;
 
 // The degree of the field. Below an entry there is no other.
-#[derive(Clone, Copy)]
+#[derive(Clone, Copy, Debug, PartialEq, Eq)]
 pub enum Degree {
     Four,
     Six,
     Seven,
 }
 
-// The degree that a number names, if it names one.
-#[derive(Clone, Copy)]
-pub enum Named {
-    Known(Degree),
-    Unknown,
-}
+// A number that names no degree.
+#[derive(Clone, Copy, Debug, PartialEq, Eq)]
+pub struct UnknownDegree(pub u64);
 
-pub fn degree_of(number: u64) -> Named
-    ensures { result ≡ named number }
-{
-    if number == 4 {
-        Named::Known(Degree::Four)
-    } else if number == 6 {
-        Named::Known(Degree::Six)
-    } else if number == 7 {
-        Named::Known(Degree::Seven)
-    } else {
-        Named::Unknown
+impl TryFrom<u64> for Degree {
+    type Error = UnknownDegree;
+
+    ghost try_from_gives = { Names };
+
+    fn try_from(number: u64) -> Result<Self, UnknownDegree> {
+        match number {
+            4 => Ok(Degree::Four),
+            6 => Ok(Degree::Six),
+            7 => Ok(Degree::Seven),
+            _ => Err(UnknownDegree(number)),
+        }
     }
 }
+
+impl From<Degree> for u64 {
+    ghost from_gives = { λ d number. number ≡ bits d };
+
+    fn from(d: Degree) -> u64 {
+        match d {
+            Degree::Four => 4,
+            Degree::Six => 6,
+            Degree::Seven => 7,
+        }
+    }
+}
+
+impl fmt::Display for UnknownDegree {
+    fn fmt<W: fmt::Write>(&self, f: &mut fmt::Formatter<W>) -> fmt::Result {
+        write!(f, "no field here has degree {}", self.0)
+    }
+}
+
+impl Error for UnknownDegree {}
 
 // n, the cells of a line.
 pub fn size_of(d: Degree) -> usize

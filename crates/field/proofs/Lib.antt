@@ -9,4 +9,5 @@ mod Filling
 mod Reading
 pub mod Locating
 mod Search
+mod Finding
 mod PlaceTable

@@ -6,7 +6,7 @@ use mathlib.Core.Bool.{Bool, true, cond, ◌&&◌}
 use mathlib.Core.Logic.{◌≢◌}
 use mathlib.Core.List.{List, [], ◌∷◌}
 use Prim.Native.Nat.{ℕ, zero, suc, ◌+◌, ◌*◌, ◌/◌, ◌%◌, ◌<◌}
-use native.Mathlib.Nat.{add-zero, zero-add, mul-zero, mul-suc, mul-le-mul_left, le_of_suc-le-suc, not-suc-le-zero}
+use native.Mathlib.Nat.{add-zero, zero-add, mul-zero, mul-suc, le_of_suc-le-suc, not-suc-le-zero}
 use native.Mathlib.Omega.{arith}
 use lib.Bits.{bit_xor, xor_self, xor_zero_r}
 use lib.Dec.{T, eqb, ltb, eqb→eq, ltb→lt}
@@ -22,7 +22,6 @@ use Rattle.field.specs.declared.locate.Positions.TheVariants.{Zero, One, Two, Un
 use Rattle.field.specs.Field.{double, power}
 use Rattle.field.specs.Working.Positions.{located}
 use Rattle.field.specs.Working.Fitting.{Fits}
-use Rattle.field.specs.Working.Building.{Copied}
 use Rattle.field.specs.Working.Places.{positions_of, Places}
 use Rattle.field.proofs.Locating.{located_is, located_unfit, zero≢unfit, one≢unfit, two≢unfit}
 use Rattle.field.proofs.PowerTable.{products_from, powers_of, powers_listed}
@@ -146,9 +145,9 @@ module _ (d : Degree) (ks : List ℕ) where
     meets s1 s3 Unfit f = absurd f.within
 
     -- the rule at an entry: it stands for the positions that fit
-    pub places_rule : (t : List ℕ) → T (places? t) → Places d 0 t
+    pub places_rule : (t : List ℕ) → T (places? t) → Places d t
     unfolding places?
-    places_rule t p s1 s3 h1 h3 = rw (zero-add (size d * s1 + s3)) (go (positions_of entry) refl tested)
+    places_rule t p s1 s3 h1 h3 = go (positions_of entry) refl tested
       where
         row : List ℕ
         row = drop (size d * s1) t
@@ -195,29 +194,6 @@ pub cubes_six_lem : T (cubes? Six cubes_six)
 unfolding cubes? cubes_six products_from double
 cubes_six_lem = tt
 
--- ---- positions as an entry
-
-pub one_entry : (i : ℕ) → i < 128 → positions_of (16384 + i) ≡ One i
-one_entry i h =
-    let number : (16384 + i) / 16384 ≡ 1 = omega arith in
-    let first : (16384 + i) % 128 ≡ i = omega arith in
-    rw (number, first)
-
-pub two_entry : (i j : ℕ) → i < 128 → j < 128 → positions_of (32768 + i + 128 * j) ≡ Two i j
-two_entry i j h k =
-    let number : (32768 + i + 128 * j) / 16384 ≡ 2 = omega arith in
-    let first : (32768 + i + 128 * j) % 128 ≡ i = omega arith in
-    let both : (32768 + i + 128 * j) / 128 ≡ 256 + j = omega arith in
-    let second : (256 + j) % 128 ≡ j = omega arith in
-    rw (number, first, both, second)
-
--- a table that is copied behind others is still that table
-pub places_behind : (d : Degree) (at : ℕ) (from a b : List ℕ) → Places d 0 from → Copied at (size d * size d) from a b → Places d at b
-places_behind d at from a b p c s1 s3 h1 h3 =
-    let k = size d * s1 + s3 in
-    let room : k < size d * size d = omega (arith, mul-le-mul_left (size d) h1, mul-suc (size d) s1) in
-    rw (c.made k room) (rw (zero-add k) at (p s1 s3 h1 h3))
-
--- the table of degree 6, copied behind others: what the test of its rule says
-pub places_six : {at : ℕ} {from a b : List ℕ} → Copied at 4096 from a b → T (places? Six cubes_six from) → Places Six at b
-places_six {at} {from} {a} {b} c t = places_behind Six at from a b (places_rule Six cubes_six cubes_six_lem from t) c
+-- the table of degree 6: what the test of its rule says
+pub places_six : (t : List ℕ) → T (places? Six cubes_six t) → Places Six t
+places_six t p = places_rule Six cubes_six cubes_six_lem t p

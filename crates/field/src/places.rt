@@ -1,12 +1,13 @@
 // The fixed table of degree 6, from the two check sums of a word to its error positions.
-ghost use Rattle.std.specs.Prelude.{◌≡◌, ◌+◌, ◌≤◌, length};
+ghost use Rattle.std.specs.Prelude.{◌≡◌, ◌<◌};
 ghost use Rattle.degree.specs.declared.Degree.TheVariants.{Six};
-ghost use Rattle.field.specs.Working.Building.{Outside, Copied};
-ghost use Rattle.field.specs.Working.Places.{Places};
+ghost use Rattle.field.specs.Working.Positions.{located};
+ghost use Rattle.field.specs.Working.Places.{positions_of};
 
 // Entry 64 s1 + s3 has the positions that fit the check sums s1 and s3: 0 where no position is wrong; 16384 + i for position i;
 // 32768 + i + 128 j for the positions i and j, i the lower one; 49152 is the mark that no two positions or fewer fit. That each entry
-// fits, or nothing does, is one test over all of them.
+// fits, or nothing does, is one test over all of them. A number of two bytes, and no enum of three words: the table is read for every
+// word that is decoded, and a word is mended from the number without a branch.
 const PLACES_SIX: [u16; 4096] = [
     0, // s1 = 0, s3 from 0 on
     49152, // and so on: no two powers add up to 0
@@ -332,23 +333,10 @@ const PLACES_SIX: [u16; 4096] = [
     49152, 35334, 49152, 49152, 36506, 49152, 37892, 38041, 49152, 35597, 49152,
 ];
 
-// The entries of one slice, put into another from `at` on.
-fn copy_behind(from: &[u16], at: usize, table: &mut [u16])
-    requires { (length from.now ≤ 4096) × (at ≤ 4352) × (at + length from.now ≤ length table.old) }
-    ensures { Copied at (length from.now) from.now table.old table.new }
+// The positions that fit two check sums of degree 6, as an entry.
+pub fn place_six(s1: u16, s3: u16) -> u16
+    requires { (s1 < 64) × (s3 < 64) }
+    ensures { positions_of result ≡ located Six s1 s3 }
 {
-    let mut i = 0;
-    while i < from.len() {
-        table[at + i] = from[i];
-        i += 1;
-    }
-}
-
-// The table of places from entry 4352 on, behind all tables that are made.
-pub fn put_places(table: &mut [u16])
-    requires { length table.old ≡ 8449 }
-    ensures { Places Six 4352 table.new × Outside 4352 8448 table.old table.new }
-{
-    let places = PLACES_SIX;
-    copy_behind(&places, 4352, table);
+    PLACES_SIX[64 * s1 as usize + s3 as usize]
 }

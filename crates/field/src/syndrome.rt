@@ -1,13 +1,10 @@
 // The check sums of a packed word.
 ghost use Rattle.laws.specs.Digits.{digits};
 ghost use Rattle.field.specs.Working.Checks.{IsSyndrome};
-ghost use Rattle.field.specs.Working.Tables.{Tables};
 ghost use Rattle.words.specs.Working.Word.{value, width};
 
 use crate::tables::FieldTables;
-use degree::Degree;
 use words::word::Word;
-use words::word::sums::byte_sum;
 
 // The sum of α^i, the sum of α^(3i), and the parity.
 #[derive(Clone, Copy)]
@@ -17,18 +14,16 @@ pub struct Syndrome {
     pub parity: u16,
 }
 
-// The weights of the cells that hold 1, summed byte by byte: a weight holds the three sums side by side.
-pub fn syndrome_of(d: Degree, word: Word, tables: &FieldTables) -> Syndrome
-    requires { Tables d tables.now }
-    ensures { IsSyndrome d (digits width (value word)) result }
-{
-    let sum = byte_sum(word, tables, 256);
-    let s1 = sum % 128;
-    let s3 = sum / 128 % 128;
-    let parity = sum / 16384;
-    Syndrome {
-        s1: s1,
-        s3: s3,
-        parity: parity,
+impl FieldTables<'_> {
+    // A sum of weights holds the three sums side by side.
+    pub fn syndrome(&self, word: &Word) -> Syndrome
+        ensures { IsSyndrome self.now.degree (digits width (value word.now)) result }
+    {
+        let sum = self.weight_sum(word);
+        Syndrome {
+            s1: sum % 128,
+            s3: sum / 128 % 128,
+            parity: sum / 16384,
+        }
     }
 }

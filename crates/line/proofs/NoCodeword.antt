@@ -1,7 +1,7 @@
 -- Where both fillings fail, the message of a cell that the channel knows is the channel's.
 -- Assumes nothing.
 use mathlib.Core.Path.{◌≡◌, refl, sym, ◌∙◌}
-use mathlib.Core.Bool.{true, false, ◌&&◌, not, true≢false, and-false}
+use mathlib.Core.Bool.{true, false, ◌&&◌, and-false}
 use mathlib.Core.Logic.{◌⊎◌, inl, inr}
 use mathlib.Core.List.{List}
 use Prim.Native.Nat.{ℕ, ◌+◌, ◌<◌}
@@ -9,15 +9,13 @@ use native.Mathlib.Decide.{ℕ_discrete}
 use native.Mathlib.Nat.{lt_of_le_of_lt}
 use lib.Bits.{bit_and, and_le_l}
 use lib.Dec.{eqb}
-use borrow.Author.Tests.{not-true}
 use Rattle.laws.specs.Working.Bits.{bit_at}
 use Rattle.laws.proofs.Bits.{bit_at_lt, and_at, and_none}
-use Rattle.laws.proofs.Tests.{and_true}
 use Rattle.degree.specs.declared.Degree.{Degree}
 use Rattle.degree.specs.Degree.{size}
 use Rattle.words.specs.Working.Word.{value}
 use Rattle.line.specs.declared.side.Side.TheVariants.{One, Two}
-use Rattle.line.specs.declared.bounded.Tried.{Tried}
+use Rattle.std.specs.Prelude.{None}
 use Rattle.line.specs.declared.clause.Clause.TheVariants.{Neither}
 use Rattle.line.specs.declared.clause.Base.{Base}
 use Rattle.line.specs.Cells.{cell, is_erased, erasures, few, filled, designed_distance}
@@ -25,7 +23,7 @@ use Rattle.line.specs.Bounded.{Answer, Failed, bounded}
 use Rattle.line.specs.Decoding.{decode, message}
 use Rattle.line.specs.Clauses.{reach, by_reach, cost, clause}
 use Rattle.line.specs.Working.Settled.{settled}
-use Rattle.line.specs.Working.Tries.{Answers, failed, found}
+use Rattle.line.specs.Working.Tries.{Answers, failed}
 use Rattle.line.specs.Working.Fillings.{Based, Masks, start}
 use Rattle.line.proofs.ClauseLaws.{clause_settles}
 use Rattle.line.proofs.Reaching.{reach_clause}
@@ -33,15 +31,12 @@ use Rattle.line.proofs.KnownCells.{known_first}
 use Rattle.line.proofs.Masking.{equal_outside}
 use Rattle.line.proofs.Packing.{known_at}
 
-not_found : {n : ℕ} {p : Answer} {t : Tried} → Answers n p t → t.found ≡ false → p ≡ Failed
-not_found (failed g) h = refl
-not_found (found g w) h = absurd (true≢false (sym g ∙ h))
+not_found : {n : ℕ} {p : Answer} → Answers n p None → p ≡ Failed
+not_found failed = refl
 
-module _ (d : Degree) (ys rs : List ℕ) (f : ℕ) {b : Base} (B : Based d ys rs f b) (e : few ys ≡ true) (o : (not b.one.tried.found && not b.two.tried.found) ≡ true) where
+module _ (d : Degree) (ys rs : List ℕ) (f : ℕ) {b : Base} (B : Based d ys rs f b) (e : few ys ≡ true) (h₁ : b.one.tried ≡ None) (h₂ : b.two.tried ≡ None) where
   none_found : (bounded d (filled One ys f) ≡ Failed) × (bounded d (filled Two ys f) ≡ Failed)
-  none_found =
-      let s = and_true (not b.one.tried.found) (not b.two.tried.found) o in
-      (not_found (B.one e).tried.answer (not-true b.one.tried.found s.0), not_found (B.two e).tried.answer (not-true b.two.tried.found s.1))
+  none_found = (not_found (rw h₁ at (B.one e).tried.answer), not_found (rw h₂ at (B.two e).tried.answer))
 
   neither : (k : ℕ) → is_erased (cell rs k) ≡ false → Neither ≡ by_reach (bounded d) ys rs f k
   unfolding by_reach reach

@@ -1,7 +1,7 @@
 -- Where both fillings decode to one codeword, it is the message of each cell at which it stays in reach of both.
 -- Assumes nothing.
 use mathlib.Core.Path.{◌≡◌, refl, sym, ap, ap₂, ◌∙◌}
-use mathlib.Core.Bool.{Bool, true, false, cond, ◌&&◌, ◌||◌, not, true≢false, or-true}
+use mathlib.Core.Bool.{Bool, true, false, cond, ◌&&◌, ◌||◌, not, or-true}
 use mathlib.Core.Logic.{◌⊎◌, inl, inr}
 use mathlib.Core.List.{List}
 use Prim.Native.Nat.{ℕ, ◌+◌, ◌-◌, ◌<◌}
@@ -10,12 +10,11 @@ use native.Mathlib.Decide.{ℕ_discrete}
 use native.Mathlib.Nat.{lt_of_le_of_lt}
 use lib.Bits.{bit_and, bit_or, bit_xor, and_le_l}
 use lib.Dec.{eqb, ltb}
-use borrow.Author.Tests.{eqb-true, ne_eqb}
+use borrow.Author.Tests.{ne_eqb, lt-ltb}
 use lib.Pow.{pow_pos}
 use Rattle.laws.specs.Working.Bits.{bit_at}
 use Rattle.laws.proofs.Xor.{bit_ind}
 use Rattle.laws.proofs.Bits.{bit_at_lt, or_at, xor_at, and_at, or_first, or_second, and_none}
-use Rattle.laws.proofs.Tests.{and_true}
 use Rattle.degree.specs.declared.Degree.{Degree}
 use Rattle.degree.specs.Degree.{size}
 use Rattle.line.specs.declared.side.Side.{Side}
@@ -26,16 +25,17 @@ use Rattle.line.specs.Working.Packed.{Packs, PacksWord}
 use Rattle.words.specs.Working.Word.{value}
 use Rattle.line.proofs.Packing.{bit_of_word}
 use Rattle.line.proofs.RowLaws.{word_packs_one}
-use Rattle.line.specs.declared.bounded.Tried.{Tried}
+use Rattle.line.specs.declared.bounded.Correction.{Correction}
+use Rattle.std.specs.Prelude.{Some}
 use Rattle.line.specs.Bounded.{Answer, Found, bounded}
 use Rattle.line.specs.Decoding.{choice, replaced, decode, message}
-use Rattle.line.specs.Working.Tries.{Answers, failed, found, Decodes}
+use Rattle.line.specs.Working.Tries.{Answers, found, Decodes}
 use Rattle.line.specs.declared.clause.Clause.TheVariants.{Both}
 use Rattle.line.specs.declared.clause.Trial.{Trial}
 use Rattle.line.specs.declared.clause.Base.{Base}
 use Rattle.line.specs.Clauses.{reach, by_reach, cost, clause}
 use Rattle.line.specs.Working.Settled.{settled}
-use Rattle.line.specs.Working.Fillings.{TrialOf, Based, Masks, start, stays, one_codeword}
+use Rattle.line.specs.Working.Fillings.{TrialOf, Based, Masks, start, stays}
 use Rattle.line.proofs.ClauseLaws.{clause_settles}
 use Rattle.line.proofs.Reaching.{channel_bit, reach_at, reach_clause}
 use Rattle.line.proofs.Masking.{equal_outside}
@@ -53,17 +53,17 @@ stays_bit {a} {c} {o} ha hc ho =
     (bit_ind (λ (o : ℕ). bit_xor (bit_xor 1 0) (bit_and (bit_xor 1 0) (bit_xor o 1)) ≡ 0 → (eqb 1 0 || not (eqb o 1)) ≡ true) (λ z. refl) (λ z. absurd (omega arith)) ho)
     (λ z. refl) hc) ha
 
-pub stays_at : (h : Trial) (k : ℕ) → {m w v : ℕ}
-    → m ≡ bit_xor (value h.before) (value h.channel) → v ≡ bit_xor (value h.tried.word) (value h.before) → w ≡ bit_xor m (bit_and m v) → bit_at w k ≡ 0
-    → stays h k ≡ true
-stays_at h k em ev ew z =
+pub stays_at : (h : Trial) (t : Correction) (k : ℕ) → {m w v : ℕ}
+    → m ≡ bit_xor (value h.before) (value h.channel) → v ≡ bit_xor (value t.word) (value h.before) → w ≡ bit_xor m (bit_and m v) → bit_at w k ≡ 0
+    → stays h t k ≡ true
+stays_at h t k em ev ew z =
     let a = value h.before in
     let c = value h.channel in
-    let o = value h.tried.word in
+    let o = value t.word in
     let whole = ew ∙ ap₂ (λ (m v : ℕ). bit_xor m (bit_and m v)) em ev in
     let e = xor_at (bit_xor a c) (bit_and (bit_xor a c) (bit_xor o a)) k
     ∙ ap₂ bit_xor (xor_at a c k) (and_at (bit_xor a c) (bit_xor o a) k ∙ ap₂ bit_and (xor_at a c k) (xor_at o a k)) in
-    ap (λ (x : Bool). ltb h.tried.changed radius || x) (stays_bit (bit_at_lt a k) (bit_at_lt c k) (bit_at_lt o k) (sym e ∙ sym (ap (λ (x : ℕ). bit_at x k) whole) ∙ z)) ∙ or-true (ltb h.tried.changed radius)
+    ap (λ (x : Bool). ltb t.changed radius || x) (stays_bit (bit_at_lt a k) (bit_at_lt c k) (bit_at_lt o k) (sym e ∙ sym (ap (λ (x : ℕ). bit_at x k) whole) ∙ z)) ∙ or-true (ltb t.changed radius)
 
 -- ---- one codeword
 
@@ -73,11 +73,8 @@ pub record Agree (p q : Answer) : Type 0 where
   pub first : p ≡ Found codeword
   pub second : q ≡ Found codeword
 
-agree : {n : ℕ} {p q : Answer} {t u : Tried} → Answers n p t → Answers n q u → t.found ≡ true → u.found ≡ true → value t.word ≡ value u.word → Agree p q
-agree (failed e) b f g w = absurd (true≢false (sym f ∙ e))
-agree (found e x) (failed l) f g w = absurd (true≢false (sym g ∙ l))
-agree {n} (found {c} e x) (found {c = c'} l z) f g w =
-    record { codeword = c; first = refl; second = ap Found (word_packs_one (sym w) z x) }
+agree : {n : ℕ} {p q : Answer} {t u : Correction} → Answers n p (Some t) → Answers n q (Some u) → value t.word ≡ value u.word → Agree p q
+agree {n} (found {c} x) (found {c = c'} z) w = record { codeword = c; first = refl; second = ap Found (word_packs_one (sym w) z x) }
 
 choice_one : (y c : List ℕ) → choice y (Found c) (Found c) ≡ Found c
 choice_one y c = go (ltb (distance y c) (distance y c))
@@ -87,14 +84,9 @@ choice_one y c = go (ltb (distance y c) (distance y c))
     go false = refl
 
 module _ (d : Degree) (ys rs : List ℕ) (f : ℕ) {y r : Line} (p : Packs (size d) ys y) (q : Packs (size d) rs r)
-    {one two : Tried} (D₁ : Decodes d (filled One ys f) one) (D₂ : Decodes d (filled Two ys f) two) (e : few ys ≡ true) (o : one_codeword one two ≡ true) where
-  both_found : (one.found ≡ true) × (two.found ≡ true)
-  both_found = and_true one.found two.found (and_true (one.found && two.found) (eqb (value one.word) (value two.word)) o).0
-
+    {one two : Correction} (D₁ : Decodes d (filled One ys f) (Some one)) (D₂ : Decodes d (filled Two ys f) (Some two)) (e : few ys ≡ true) (o : value one.word ≡ value two.word) where
   agreed : Agree (bounded d (filled One ys f)) (bounded d (filled Two ys f))
-  agreed =
-      let s = and_true (one.found && two.found) (eqb (value one.word) (value two.word)) o in
-      agree D₁.answer D₂.answer both_found.0 both_found.1 (eqb-true (value one.word) (value two.word) s.1)
+  agreed = agree D₁.answer D₂.answer o
 
   both_clause : (k : ℕ) → reach (bounded d) ys rs f k One ≡ true → reach (bounded d) ys rs f k Two ≡ true → Both ≡ by_reach (bounded d) ys rs f k
   unfolding by_reach
@@ -116,15 +108,15 @@ module _ (d : Degree) (ys rs : List ℕ) (f : ℕ) {y r : Line} (p : Packs (size
           rw (clause_settles d ys rs f k p.cells q.cells hk, ← c) (own_cell k agreed, refl)
 
   -- a codeword nearer than the radius stays in reach at every cell
-  near_reach : (k : ℕ) → k < size d → (s : Side) (t : Tried) → Decodes d (filled s ys f) t → t.found ≡ true → ltb t.changed radius ≡ true → reach (bounded d) ys rs f k s ≡ true
-  near_reach k hk s t D g h =
-      sym (reach_at d ys rs f k p.cells q.cells hk s t D (bit_at (value t.word) k) (λ c w. bit_of_word k w)) ∙ rw (g, h)
+  near_reach : (k : ℕ) → k < size d → (s : Side) (m : Correction) → Decodes d (filled s ys f) (Some m) → m.changed < radius → reach (bounded d) ys rs f k s ≡ true
+  near_reach k hk s m D h =
+      sym (reach_at d ys rs f k p.cells q.cells hk s m D (bit_at (value m.word) k) (λ c w. bit_of_word k w)) ∙ rw (lt-ltb m.changed radius h)
 
   -- where nothing takes it out of reach of either, and no cell is crowded, it is the message of every cell
-  pub quiet_mask : erasures ys < designed_distance - 1 → ltb one.changed radius ≡ true → ltb two.changed radius ≡ true → Masks d ys rs f 0
+  pub quiet_mask : erasures ys < designed_distance - 1 → one.changed < radius → two.changed < radius → Masks d ys rs f 0
   quiet_mask l g h = record {
     small = pow_pos (size d);
-    rest = λ k hk z. own_message k hk (near_reach k hk One one D₁ both_found.0 g) (near_reach k hk Two two D₂ both_found.1 h) (ap (λ (x : Bool). x && eqb (cell rs k) 2) (ne_eqb (erasures ys + 1) designed_distance (λ z. omega arith)));
+    rest = λ k hk z. own_message k hk (near_reach k hk One one D₁ g) (near_reach k hk Two two D₂ h) (ap (λ (x : Bool). x && eqb (cell rs k) 2) (ne_eqb (erasures ys + 1) designed_distance (λ z. omega arith)));
   }
 
   -- and the line that the messages start from
@@ -132,37 +124,36 @@ module _ (d : Degree) (ys rs : List ℕ) (f : ℕ) {y r : Line} (p : Packs (size
   unfolding start decode
   quiet_start {l} whole = rw (e, agreed.first, agreed.second, choice_one ys agreed.codeword) (whole (size d) agreed.codeword (word_of (bounded d (filled One ys f)) D₁.answer agreed.first))
     where
-      word_of : (a : Answer) → Answers (size d) a one → a ≡ Found agreed.codeword → PacksWord (size d) agreed.codeword (value one.word)
-      word_of _ (failed g) h = absurd (true≢false (sym both_found.0 ∙ g))
-      word_of _ (found {c} g w) h = let same : c ≡ agreed.codeword = cc in rw (← same) w
+      word_of : (a : Answer) → Answers (size d) a (Some one) → a ≡ Found agreed.codeword → PacksWord (size d) agreed.codeword (value one.word)
+      word_of _ (found {c} w) h = let same : c ≡ agreed.codeword = cc in rw (← same) w
 
 -- the mask of the cells at which it does not stay in reach of both
-module _ (d : Degree) (ys rs : List ℕ) (f : ℕ) {b : Base} (B : Based d ys rs f b) (e : few ys ≡ true) (o : one_codeword b.one.tried b.two.tried ≡ true) where
-  in_reach : (k : ℕ) → k < size d → (s : Side) (h : Trial) → TrialOf d ys rs f s h → h.tried.found ≡ true → stays h k ≡ true → reach (bounded d) ys rs f k s ≡ true
-  in_reach k hk s h H g t =
+module _ (d : Degree) (ys rs : List ℕ) (f : ℕ) {b : Base} (B : Based d ys rs f b) (e : few ys ≡ true)
+    {one two : Correction} (h₁ : b.one.tried ≡ Some one) (h₂ : b.two.tried ≡ Some two) (o : value one.word ≡ value two.word) where
+  in_reach : (k : ℕ) → k < size d → (s : Side) (h : Trial) (m : Correction) → TrialOf d ys rs f s h → h.tried ≡ Some m → stays h m k ≡ true → reach (bounded d) ys rs f k s ≡ true
+  in_reach k hk s h m H g t =
       let p = B.incoming in
       let q = B.channel in
-      sym (reach_at d ys rs f k p.cells q.cells hk s h.tried H.tried (bit_at (value h.tried.word) k) (λ c w. bit_of_word k w))
-      ∙ rw (g, ← bit_of_word k H.before, ← (bit_of_word k H.channel ∙ channel_bit d ys rs f k p.cells q.cells hk s)) t
+      sym (reach_at d ys rs f k p.cells q.cells hk s m (rw g at H.tried) (bit_at (value m.word) k) (λ c w. bit_of_word k w))
+      ∙ rw (← bit_of_word k H.before, ← (bit_of_word k H.channel ∙ channel_bit d ys rs f k p.cells q.cells hk s)) t
 
-  stays_message : (k : ℕ) → k < size d → stays b.one k ≡ true → stays b.two k ≡ true → (eqb (b.erased + 1) designed_distance && eqb (cell rs k) 2) ≡ false
+  stays_message : (k : ℕ) → k < size d → stays b.one one k ≡ true → stays b.two two k ≡ true → (eqb (b.erased + 1) designed_distance && eqb (cell rs k) 2) ≡ false
       → (cell (start d ys rs f) k ≡ message (bounded d) ys rs f k) × (cost (clause (bounded d) ys rs f k) ≡ 0)
   stays_message k hk g h l =
-      let D₁ = (B.one e).tried in
-      let D₂ = (B.two e).tried in
-      let s = both_found d ys rs f B.incoming B.channel D₁ D₂ e o in
-      own_message d ys rs f B.incoming B.channel D₁ D₂ e o k hk (in_reach k hk One b.one (B.one e) s.0 g) (in_reach k hk Two b.two (B.two e) s.1 h) (rw (← B.erased) l)
+      let D₁ = rw h₁ at (B.one e).tried in
+      let D₂ = rw h₂ at (B.two e).tried in
+      own_message d ys rs f B.incoming B.channel D₁ D₂ e o k hk (in_reach k hk One b.one one (B.one e) h₁ g) (in_reach k hk Two b.two two (B.two e) h₂ h) (rw (← B.erased) l)
 
-  pub own_mask : (a l m c : ℕ) → Masks d ys rs f a → ((k : ℕ) → bit_at l k ≡ 0 → stays b.one k ≡ true) → ((k : ℕ) → bit_at m k ≡ 0 → stays b.two k ≡ true)
-      → ((k : ℕ) → bit_at c k ≡ 0 → (eqb (b.erased + 1) designed_distance && eqb (cell rs k) 2) ≡ false) → Masks d ys rs f (bit_and a (bit_or l (bit_or m c)))
-  own_mask a l m c A L M C = record { small = lt_of_le_of_lt (and_le_l a (bit_or l (bit_or m c))) A.small; rest = rest }
+  pub own_mask : (a l m c : ℕ) → Masks d ys rs f a → ((k : ℕ) → bit_at l k ≡ 0 → stays b.one one k ≡ true) → ((k : ℕ) → bit_at m k ≡ 0 → stays b.two two k ≡ true)
+      → ((k : ℕ) → bit_at c k ≡ 0 → (eqb (b.erased + 1) designed_distance && eqb (cell rs k) 2) ≡ false) → Masks d ys rs f (bit_and a (bit_or (bit_or l m) c))
+  own_mask a l m c A L M C = record { small = lt_of_le_of_lt (and_le_l a (bit_or (bit_or l m) c)) A.small; rest = rest }
     where
-      rest : (k : ℕ) → k < size d → bit_at (bit_and a (bit_or l (bit_or m c))) k ≡ 0 → (cell (start d ys rs f) k ≡ message (bounded d) ys rs f k) × (cost (clause (bounded d) ys rs f k) ≡ 0)
-      rest k hk z = go (and_none (bit_at_lt a k) (bit_at_lt (bit_or l (bit_or m c)) k) (sym (and_at a (bit_or l (bit_or m c)) k) ∙ z))
+      rest : (k : ℕ) → k < size d → bit_at (bit_and a (bit_or (bit_or l m) c)) k ≡ 0 → (cell (start d ys rs f) k ≡ message (bounded d) ys rs f k) × (cost (clause (bounded d) ys rs f k) ≡ 0)
+      rest k hk z = go (and_none (bit_at_lt a k) (bit_at_lt (bit_or (bit_or l m) c) k) (sym (and_at a (bit_or (bit_or l m) c) k) ∙ z))
         where
-          go : (bit_at a k ≡ 0) ⊎ (bit_at (bit_or l (bit_or m c)) k ≡ 0) → (cell (start d ys rs f) k ≡ message (bounded d) ys rs f k) × (cost (clause (bounded d) ys rs f k) ≡ 0)
+          go : (bit_at a k ≡ 0) ⊎ (bit_at (bit_or (bit_or l m) c) k ≡ 0) → (cell (start d ys rs f) k ≡ message (bounded d) ys rs f k) × (cost (clause (bounded d) ys rs f k) ≡ 0)
           go (inl e) = A.rest k hk e
           go (inr e) =
-              let x = sym (or_at l (bit_or m c) k) ∙ e in
-              let y = sym (or_at m c k) ∙ or_second (bit_at l k) (bit_at (bit_or m c) k) x in
-              stays_message k hk (L k (or_first (bit_at l k) (bit_at (bit_or m c) k) x)) (M k (or_first (bit_at m k) (bit_at c k) y)) (C k (or_second (bit_at m k) (bit_at c k) y))
+              let x = sym (or_at (bit_or l m) c k) ∙ e in
+              let y = sym (or_at l m k) ∙ or_first (bit_at (bit_or l m) k) (bit_at c k) x in
+              stays_message k hk (L k (or_first (bit_at l k) (bit_at m k) y)) (M k (or_second (bit_at l k) (bit_at m k) y)) (C k (or_second (bit_at (bit_or l m) k) (bit_at c k) x))

@@ -103,10 +103,6 @@ as_line {ws} z p =
       erased = z ∙ sym (no_erased ws p.cells.small);
     }
 
--- a line with no unsure cell is a word
-pub as_word : {n : ℕ} {ws : List ℕ} {l : Line} {w : Word} → w ≡ l.ones → ((i : ℕ) → cell ws i < 2) → Packs n ws l → PacksWord n ws (value w)
-as_word e h p = record { room = p.room; cells = record { long = p.cells.long; small = h }; ones = ap value e ∙ p.ones }
-
 pub erasures_of : {n : ℕ} {cs : List ℕ} {l : Line} → Packs n cs l → ones (value l.erased) ≡ erasures cs
 erasures_of {cs} p = rw p.erased (ones_erased cs)
 

@@ -10,9 +10,8 @@ use Rattle.laws.specs.Digits.{sum_over, ones_in}
 use Rattle.laws.specs.Searches.{first_of}
 use Rattle.laws.specs.Sums.{sum_to}
 use Rattle.field.specs.Field.{double, times_power}
-use Rattle.line.specs.declared.entry.WordAnswer.{WordAnswer}
-use Rattle.line.specs.declared.entry.LineAnswer.{LineAnswer}
-use Rattle.line.specs.declared.entry.MessagesAnswer.{MessagesAnswer}
+use Rattle.std.specs.Prelude.{Option, Result}
+use Rattle.line.specs.declared.refusals.Refusal.{Refusal}
 use Rattle.line.specs.Cells.{erasures, distance, filled, flip}
 use Rattle.line.specs.Codeword.{is_codeword}
 use Rattle.line.specs.Bounded.{Answer, or_back, itself, one_flipped, two_flipped, within2, bounded, changed}
@@ -25,12 +24,12 @@ use Rattle.line.proofs.Examples.{line, zeros, word_g, p3, p4, p7, p7_messages, p
 -- ---- bounded distance: refusal, found, cells changed, and the word
 
 -- what a word's answer is promised to be
-word_told : {no : ℕ} {a : Answer} {before : List ℕ} (after : List ℕ) (r : WordAnswer) → WordAnswered no a before after r
+word_told : {no : ℕ} {a : Answer} {before : List ℕ} (after : List ℕ) (r : Result (Option ℕ) Refusal) → WordAnswered no a before after r
     → (word_numbers r ≡ (no, is_found a, changed before a)) × (after ≡ or_back before a)
 word_told after r h = (rw (← h.answer.refusal, ← h.answer.found, ← h.changed) refl, h.answer.cells)
 
 abbrev WordTells : (before : List ℕ) → ℕ × Bool × ℕ → (left : List ℕ) → Type 0
-WordTells w n left = (after : List ℕ) (r : WordAnswer) → BoundedDone 4 w [] after r → (word_numbers r ≡ n) × (after ≡ left)
+WordTells w n left = (after : List ℕ) (r : Result (Option ℕ) Refusal) → BoundedDone 4 w [] after r → (word_numbers r ≡ n) × (after ≡ left)
 
 -- none to three cells of a codeword wrong, the last cell among them or not; a cell 2; a cell too few, alone and with cells 2
 pub word_numbers_lem :
@@ -48,12 +47,12 @@ word_numbers_lem = (word_told, word_told, word_told, word_told, word_told, word_
 
 -- ---- line decoding: refusal, found, and the line
 
-line_told : {no : ℕ} {a : Answer} {before : List ℕ} (after : List ℕ) (r : LineAnswer) → Answered no a before after (line_numbers r)
+line_told : {no : ℕ} {a : Answer} {before : List ℕ} (after : List ℕ) (r : Result Bool Refusal) → Answered no a before after (line_numbers r)
     → (line_numbers r ≡ (no, is_found a)) × (after ≡ or_back before a)
 line_told after r h = (rw (← h.refusal, ← h.found) refl, h.cells)
 
 abbrev LineTells : (before : List ℕ) (filling : ℕ) → ℕ × Bool → (left : List ℕ) → Type 0
-LineTells y f n left = (after : List ℕ) (r : LineAnswer) → DecodeLineDone 4 f y [] after r → (line_numbers r ≡ n) × (after ≡ left)
+LineTells y f n left = (after : List ℕ) (r : Result Bool Refusal) → DecodeLineDone 4 f y [] after r → (line_numbers r ≡ n) × (after ≡ left)
 
 abbrev p6 : List ℕ
 p6 = line [] (0 ∷ 4 ∷ 6 ∷ 7 ∷ 8 ∷ 15 ∷ [])
@@ -74,12 +73,12 @@ line_numbers_lem = (line_told, line_told, line_told, line_told, line_told, line_
 
 -- ---- messages: refusal, count, and the messages
 
-messages_told : {degree filling : ℕ} {incoming channel before : List ℕ} {more : List Bool} (after : List ℕ) (r : MessagesAnswer) → MessagesDone degree incoming channel filling before more after r
+messages_told : {degree filling : ℕ} {incoming channel before : List ℕ} {more : List Bool} (after : List ℕ) (r : Result ℕ Refusal) → MessagesDone degree incoming channel filling before more after r
     → messages_numbers r ≡ (refusal (messages_tests degree incoming channel before more), given degree (messages_tests degree incoming channel before more) (λ d. count (bounded d) incoming channel filling) 0)
 messages_told after r h = rw (← h.refusal, ← h.count) refl
 
 abbrev MessagesTell : (incoming channel : List ℕ) → ℕ × ℕ → Type 0
-MessagesTell y r n = (after : List ℕ) (a : MessagesAnswer) → MessagesDone 4 y r 0 zeros [] after a → messages_numbers a ≡ n
+MessagesTell y r n = (after : List ℕ) (a : Result ℕ Refusal) → MessagesDone 4 y r 0 zeros [] after a → messages_numbers a ≡ n
 
 -- P10 and P12, whose counts are 2 and 3; 16 unsure cells, where nothing is decoded; a cell 3 from the channel
 pub messages_numbers_lem :
@@ -91,7 +90,7 @@ unfolding given messages_tests at_most count sum_to clause by_reach reach same a
 messages_numbers_lem = (messages_told, messages_told, messages_told, messages_told)
 
 abbrev MessagesLeave : (incoming channel : List ℕ) (filling : ℕ) (left : List ℕ) → Type 0
-MessagesLeave y r f left = (after : List ℕ) (a : MessagesAnswer) → MessagesDone 4 y r f (replicate 16 9) [] after a → after ≡ left
+MessagesLeave y r f left = (after : List ℕ) (a : Result ℕ Refusal) → MessagesDone 4 y r f (replicate 16 9) [] after a → after ≡ left
 
 -- P7 and P8 from the same channel line, where the filling decides; a refused call leaves what stood in the place for the messages
 pub messages_left :

@@ -16,7 +16,6 @@ use Rattle.degree.specs.Degree.{size}
 use Rattle.line.specs.declared.side.Side.{Side}
 use Rattle.line.specs.declared.side.Side.TheVariants.{One, Two}
 use Rattle.line.specs.declared.clause.Clause.TheVariants.{Equal, Crowded, Afresh, Channel}
-use Rattle.line.specs.declared.bounded.Tried.{Tried}
 use Rattle.line.specs.declared.clause.Seen.{Seen}
 use Rattle.line.specs.Working.Packed.{IsLine, PacksWord}
 use Rattle.line.specs.Cells.{cell, is_erased, erasures, few, distance, filled, filling_bit, designed_distance, radius}
@@ -25,7 +24,8 @@ use Rattle.line.specs.Bounded.{Answer, bounded, changed as changed_by}
 use Rattle.line.specs.Decoding.{replaced}
 use Rattle.line.specs.Clauses.{near, reach, same, agrees, answer_cell, first_fit, by_reach, clause}
 use Rattle.words.specs.Working.Word.{value}
-use Rattle.line.specs.declared.bounded.Tried.{Tried}
+use Rattle.line.specs.declared.bounded.Correction.{Correction}
+use Rattle.std.specs.Prelude.{None, Some}
 use Rattle.line.specs.Working.Tries.{Answers, failed, found, Decodes}
 use Rattle.line.specs.Working.Fillings.{Sees}
 use Rattle.line.proofs.CellLaws.{bits_from, filled_cell_lem, filled_word, distance_set, erased_or_known}
@@ -61,32 +61,46 @@ module _ (d : Degree) (ys rs : List ℕ) (f k : ℕ) (ly : IsLine (size d) ys) (
   pub channel_bit : (s : Side) → cell (filled s rs f) k ≡ cell (filled s (replaced ys rs k) f) k
   channel_bit s = filled_cell_lem s rs f k (rw lr.long hk) ∙ sym (now_cell (bounded_decoder d) ys rs f k ly lr hk s)
 
-  -- a filling, and cell k of what it found
-  module _ (s : Side) (t : Tried) (H : Decodes d (filled s ys f) t) (own : ℕ) (is-own : (c : List ℕ) → PacksWord (size d) c (value t.word) → own ≡ cell c k) where
-    pub value_at : cond t.found own (cell rs k) ≡ answer_cell (bounded d) ys rs f k (bounded d (filled s ys f))
-    value_at = go H.answer
-      where
-        go : {p : Answer} → Answers (size d) p t → cond t.found own (cell rs k) ≡ answer_cell (bounded d) ys rs f k p
-        go (failed e) = rw e (sym (z_cell (bounded_decoder d) ys rs f k ly lr hk))
-        go (found {c} e w) = rw e (is-own c w)
+  module _ (s : Side) where
+    -- a filling that found a codeword, which has own at cell k
+    module _ (m : Correction) (H : Decodes d (filled s ys f) (Some m)) (own : ℕ) (is-own : (c : List ℕ) → PacksWord (size d) c (value m.word) → own ≡ cell c k) where
+      pub value_at : own ≡ answer_cell (bounded d) ys rs f k (bounded d (filled s ys f))
+      value_at = go H.answer
+        where
+          go : {p : Answer} → Answers (size d) p (Some m) → own ≡ answer_cell (bounded d) ys rs f k p
+          go (found {c} w) = is-own c w
 
-    pub reach_at : (t.found && (ltb t.changed radius || (eqb (cell (filled s ys f) k) (cell (filled s (replaced ys rs k) f) k) || not (eqb own (cell (filled s ys f) k)))))
-        ≡ reach (bounded d) ys rs f k s
-    unfolding reach
-    reach_at = go (bounded d (filled s ys f)) refl H.answer
-      where
-        go : (p : Answer) → bounded d (filled s ys f) ≡ p → Answers (size d) p t
-            → (t.found && (ltb t.changed radius || (eqb (cell (filled s ys f) k) (cell (filled s (replaced ys rs k) f) k) || not (eqb own (cell (filled s ys f) k)))))
-            ≡ near p (filled s (replaced ys rs k) f)
-        go _ e (failed g) = rw g
-        go _ e (found {c} g w) =
-            let D = bounded_decoder d in
-            let l = filled_word s f ly in
-            let q = D.sound l e in
-            let b = filled_cell (cell rs k) (filling_bit s (bits_from k f)) in
-            rw (g, H.changed g ∙ ap (changed_by (filled s ys f)) e, is-own c w, now_cell D ys rs f k ly lr hk s, now_is D ys rs f k ly lr hk s)
-            (sym (moves (distance (filled s ys f) c) (distance (set (filled s ys f) k b) c) q.1 (l.small k) (new_lt D ys rs f k ly lr hk s) (w.cells.small k)
-            (distance_set (filled s ys f) c k b (rw l.long hk) (rw w.cells.long hk))))
+      pub reach_at : (ltb m.changed radius || (eqb (cell (filled s ys f) k) (cell (filled s (replaced ys rs k) f) k) || not (eqb own (cell (filled s ys f) k))))
+          ≡ reach (bounded d) ys rs f k s
+      unfolding reach
+      reach_at = go (bounded d (filled s ys f)) refl H.answer
+        where
+          go : (p : Answer) → bounded d (filled s ys f) ≡ p → Answers (size d) p (Some m)
+              → (ltb m.changed radius || (eqb (cell (filled s ys f) k) (cell (filled s (replaced ys rs k) f) k) || not (eqb own (cell (filled s ys f) k))))
+              ≡ near p (filled s (replaced ys rs k) f)
+          go _ e (found {c} w) =
+              let D = bounded_decoder d in
+              let l = filled_word s f ly in
+              let q = D.sound l e in
+              let b = filled_cell (cell rs k) (filling_bit s (bits_from k f)) in
+              rw (H.changed ∙ ap (changed_by (filled s ys f)) e, is-own c w, now_cell D ys rs f k ly lr hk s, now_is D ys rs f k ly lr hk s)
+              (sym (moves (distance (filled s ys f) c) (distance (set (filled s ys f) k b) c) q.1 (l.small k) (new_lt D ys rs f k ly lr hk s) (w.cells.small k)
+              (distance_set (filled s ys f) c k b (rw l.long hk) (rw w.cells.long hk))))
+
+    -- one that found none
+    module _ (H : Decodes d (filled s ys f) None) where
+      pub none_value : cell rs k ≡ answer_cell (bounded d) ys rs f k (bounded d (filled s ys f))
+      none_value = go H.answer
+        where
+          go : {p : Answer} → Answers (size d) p None → cell rs k ≡ answer_cell (bounded d) ys rs f k p
+          go failed = sym (z_cell (bounded_decoder d) ys rs f k ly lr hk)
+
+      pub none_reach : false ≡ reach (bounded d) ys rs f k s
+      unfolding reach
+      none_reach = go (bounded d (filled s ys f)) H.answer
+        where
+          go : (p : Answer) → Answers (size d) p None → false ≡ near p (filled s (replaced ys rs k) f)
+          go _ failed = refl
 
   -- ---- the clause
 

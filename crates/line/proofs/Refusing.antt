@@ -1,41 +1,31 @@
 -- The tests of a call: what it gives by the number of the first that applies, and what a taken call's tests say of its input.
 -- Assumes nothing.
 use mathlib.Core.Path.{◌≡◌, refl, sym, ap, ◌∙◌}
-use mathlib.Core.Bool.{Bool, true, false, cond, not, ◌&&◌, ◌||◌, or-false, true≢false}
+use mathlib.Core.Bool.{Bool, true, false, cond, not, ◌&&◌, ◌||◌, and_assoc, and-true, or-false, true≢false}
 use mathlib.Core.List.{List, [], ◌∷◌, ◌++◌}
-use Prim.Native.Nat.{ℕ, zero, suc, ◌+◌, ◌^◌, ◌<◌, ◌≤◌}
-use native.Mathlib.Numerals.{add-one}
+use Prim.Native.Nat.{ℕ, zero, suc, ◌^◌, ◌<◌}
 use native.Mathlib.Omega.{arith}
+use Rattle.std.specs.Prelude.{Option, None, Some, Result, Ok, Err}
 use lib.Dec.{T, eqb, leb}
-use lib.ListN.{length, drop, drop_of_length-le}
-use lib.Seq.{drop-cons}
+use lib.ListN.{length}
 use borrow.Author.Tests.{leb-true, eqb-true, eq-eqb, ne_eqb, not-false}
 use Rattle.laws.proofs.Tests.{and_true}
 use Rattle.degree.specs.declared.Degree.{Degree}
 use Rattle.degree.specs.declared.Degree.TheVariants.{Four, Six, Seven}
-use Rattle.degree.specs.declared.Named.{Named}
-use Rattle.degree.specs.declared.Named.TheVariants.{Known, Unknown}
 use Rattle.degree.specs.Degree.{bits, size, named}
 use Rattle.line.specs.declared.refusals.Refusal.{Refusal}
 use Rattle.line.specs.declared.refusals.Refusal.TheVariants.{BadDegree, BadIterations, BadLength, BadCell, BadFile, BadSum, BadContent, BadSeed, TooMany}
-use Rattle.line.specs.declared.refusals.Call.{Call}
-use Rattle.line.specs.declared.refusals.Call.TheVariants.{Taken, Refused}
 use Rattle.line.specs.Cells.{cell, Cells}
 use Rattle.line.specs.Refusals.{number, refusal, unless_refused, given, misfit, some, at_most, line_tests, messages_tests}
 use Rattle.line.specs.Working.Calls.{Tested}
 
--- ---- no cell above a bound, looked at one after the other
+-- ---- no cell above a bound
 
-module _ (bound : ℕ) (cells : List ℕ) (i : ℕ) where
-  -- one cell more
-  pub one_more : i < length cells → at_most bound (drop i cells) ≡ (leb (cell cells i) bound && at_most bound (drop (i + 1) cells))
-  unfolding at_most
-  one_more h = rw (add-one i, drop-cons cells i 0 h)
-
-  -- no cell left
-  pub passed_all : length cells ≤ i → at_most bound (drop i cells) ≡ true
-  unfolding at_most
-  passed_all h = rw (drop_of_length-le cells h)
+-- one cell more at the end
+pub at_most_push : (bound : ℕ) (cells : List ℕ) (c : ℕ) → at_most bound (cells ++ c ∷ []) ≡ (at_most bound cells && leb c bound)
+unfolding at_most
+at_most_push bound [] c = and-true (leb c bound)
+at_most_push bound (b ∷ bs) c = ap (λ t. leb b bound && t) (at_most_push bound bs c) ∙ sym (and_assoc (leb b bound) (at_most bound bs) (leb c bound))
 
 -- cells that pass the test are below the next number
 pub at_most_small : (bound : ℕ) (cells : List ℕ) → at_most bound cells ≡ true → (i : ℕ) → cell cells i < suc bound
@@ -51,11 +41,11 @@ cells_small bound cells e = at_most_small bound cells (not-false (at_most bound 
 -- ---- several conditions
 
 -- none of them holds
-abbrev pub None : List Bool → Type 0
-None [] = Unit {0}
-None (b ∷ bs) = (b ≡ false) × None bs
+abbrev pub NoneOf : List Bool → Type 0
+NoneOf [] = Unit {0}
+NoneOf (b ∷ bs) = (b ≡ false) × NoneOf bs
 
-pub some_none : (bs : List Bool) → some bs ≡ false → None bs
+pub some_none : (bs : List Bool) → some bs ≡ false → NoneOf bs
 some_none [] e = tt
 some_none (true ∷ bs) e = absurd (true≢false e)
 some_none (false ∷ bs) e = (refl, some_none bs e)
@@ -67,32 +57,32 @@ fits has asked e = eqb-true has asked (not-false (eqb has asked) e)
 -- ---- the degree that a number names
 
 -- no number names a degree and none
-pub known_unknown : {v : Named} {d : Degree} → v ≡ Known d → v ≡ Unknown → ⊥
+pub known_unknown : {v : Option Degree} {d : Degree} → v ≡ Some d → v ≡ None → ⊥
 known_unknown e h = let z : ◌≡◌ {A = ℕ} 0 1 = cc in omega arith
 
 module _ (degree : ℕ) where
   -- the number of the degree that it names is itself
-  pub known_bits : (d : Degree) → named degree ≡ Known d → degree ≡ bits d
+  pub known_bits : (d : Degree) → named degree ≡ Some d → degree ≡ bits d
   known_bits d e = go (eqb degree 4) (eqb degree 6) (eqb degree 7) refl refl refl e
     where
-      go : (p q r : Bool) → eqb degree 4 ≡ p → eqb degree 6 ≡ q → eqb degree 7 ≡ r → cond p (Known Four) (cond q (Known Six) (cond r (Known Seven) Unknown)) ≡ Known d → degree ≡ bits d
+      go : (p q r : Bool) → eqb degree 4 ≡ p → eqb degree 6 ≡ q → eqb degree 7 ≡ r → cond p (Some Four) (cond q (Some Six) (cond r (Some Seven) None)) ≡ Some d → degree ≡ bits d
       go true q r a b c e = let h : Four ≡ d = cc in eqb-true degree 4 a ∙ ap bits h
       go false true r a b c e = let h : Six ≡ d = cc in eqb-true degree 6 b ∙ ap bits h
       go false false true a b c e = let h : Seven ≡ d = cc in eqb-true degree 7 c ∙ ap bits h
       go false false false a b c e = absurd (known_unknown e refl)
 
   -- it names one degree
-  pub known_one : {d d' : Degree} → named degree ≡ Known d → named degree ≡ Known d' → d ≡ d'
+  pub known_one : {d d' : Degree} → named degree ≡ Some d → named degree ≡ Some d' → d ≡ d'
   known_one {d} {d'} e e' = one (sym e ∙ e')
     where
-      one : Known d ≡ Known d' → d ≡ d'
+      one : Some d ≡ Some d' → d ≡ d'
       one h = cc
 
   -- 2 to its power is n
-  pub known_size : (d : Degree) → named degree ≡ Known d → 2 ^ degree ≡ size d
+  pub known_size : (d : Degree) → named degree ≡ Some d → 2 ^ degree ≡ size d
   known_size d e = ap (λ (v : ℕ). 2 ^ v) (known_bits d e)
 
-pub bits_named : (d : Degree) → named (bits d) ≡ Known d
+pub bits_named : (d : Degree) → named (bits d) ≡ Some d
 bits_named Four = refl
 bits_named Six = refl
 bits_named Seven = refl
@@ -123,7 +113,7 @@ applying [] = []
 applying (t ∷ ts) = t.1 ∷ applying ts
 
 -- a number of 0 says that none applies
-pub none_applies : (ts : List (ℕ × Bool)) → T (numbered ts) → refusal ts ≡ 0 → None (applying ts)
+pub none_applies : (ts : List (ℕ × Bool)) → T (numbered ts) → refusal ts ≡ 0 → NoneOf (applying ts)
 none_applies [] n e = tt
 none_applies ((zero, b) ∷ ts) n e = absurd n
 none_applies ((suc k, true) ∷ ts) n e = absurd (omega arith)
@@ -159,7 +149,7 @@ module _ {A : Type 0} (tests : List (ℕ × Bool)) where
   unless_refused_lem asked refused h = rw (ne_eqb (refusal tests) 0 h)
 
   module _ (degree : ℕ) (asked : Degree → A) (refused : A) where
-    pub given_taken : {d : Degree} → (refusal tests ≡ 0) × (named degree ≡ Known d) → given degree tests asked refused ≡ asked d
+    pub given_taken : {d : Degree} → (refusal tests ≡ 0) × (named degree ≡ Some d) → given degree tests asked refused ≡ asked d
     unfolding given
     given_taken h = rw (eq-eqb (refusal tests) 0 h.0, h.1)
 
@@ -173,31 +163,26 @@ module _ {A : Type 0} (tests : List (ℕ × Bool)) where
 -- ---- a call that is tested
 
 -- by its degree, when the tests before were passed and those after say the same
-pub tested_known : (degree : ℕ) (d : Degree) (ts us : List (ℕ × Bool)) (r : Call) → named degree ≡ Known d → refusal ts ≡ refusal us
+pub tested_known : (degree : ℕ) (d : Degree) (ts us : List (ℕ × Bool)) (r : Result Degree Refusal) → named degree ≡ Some d → refusal ts ≡ refusal us
     → Tested (bits d) ts r → Tested degree us r
-tested_known degree d ts us (Taken k) e same h = (sym same ∙ h.0, ap named (known_bits degree d e) ∙ h.1)
-tested_known degree d ts us (Refused why) e same h = h ∙ same
-
--- after a test that does not apply
-pub tested_next : (degree k : ℕ) (b : Bool) (ts : List (ℕ × Bool)) (r : Call) → b ≡ false → Tested degree ts r → Tested degree ((k, b) ∷ ts) r
-tested_next degree k b ts (Taken d) e h = (rw e h.0, h.1)
-tested_next degree k b ts (Refused why) e h = rw e h
+tested_known degree d ts us (Ok k) e same h = (sym same ∙ h.0, ap named (known_bits degree d e) ∙ h.1)
+tested_known degree d ts us (Err why) e same h = h ∙ same
 
 -- ---- the tests of lines by their degree, and what those of a taken call say of its input
 
 module _ (bound degree : ℕ) (cells : List ℕ) where
-  pub line_known : (d : Degree) (r : Call) {n : ℕ} → named degree ≡ Known d → n ≡ size d
+  pub line_known : (d : Degree) (r : Result Degree Refusal) {n : ℕ} → named degree ≡ Some d → n ≡ size d
       → Tested (bits d) ((3, misfit (length cells) n) ∷ (4, not (at_most bound cells)) ∷ []) r → Tested degree (line_tests bound degree cells []) r
   unfolding line_tests
   line_known d r {n} e f h =
       tested_known degree d ((3, misfit (length cells) n) ∷ (4, not (at_most bound cells)) ∷ []) (line_tests bound degree cells []) r e
       (rw (e, known_size degree d e, f, or-false (misfit (length cells) (size d)))) h
 
-  pub line_unknown : named degree ≡ Unknown → 1 ≡ refusal (line_tests bound degree cells [])
+  pub line_unknown : named degree ≡ None → 1 ≡ refusal (line_tests bound degree cells [])
   unfolding line_tests
   line_unknown e = rw e
 
-  pub line_taken : (d : Degree) → (refusal (line_tests bound degree cells []) ≡ 0) × (named degree ≡ Known d) → Cells (suc bound) (size d) cells
+  pub line_taken : (d : Degree) → (refusal (line_tests bound degree cells []) ≡ 0) × (named degree ≡ Some d) → Cells (suc bound) (size d) cells
   unfolding line_tests
   line_taken d h =
       let n = none_applies (line_tests bound degree cells []) tt h.0 in
@@ -205,15 +190,11 @@ module _ (bound degree : ℕ) (cells : List ℕ) where
       record { long = fits (length cells) (2 ^ degree) l.0 ∙ known_size degree d h.1; small = cells_small bound cells n.1.1.0 }
 
 module _ (degree : ℕ) (incoming channel messages : List ℕ) where
-  pub messages_known : (d : Degree) (r : Call) → named degree ≡ Known d
-      → Tested (bits d) (messages_tests (bits d) incoming channel messages []) r → Tested degree (messages_tests degree incoming channel messages []) r
-  messages_known d r e h = rw (known_bits degree d e) h
-
-  pub messages_unknown : named degree ≡ Unknown → 1 ≡ refusal (messages_tests degree incoming channel messages [])
+  pub messages_unknown : named degree ≡ None → 1 ≡ refusal (messages_tests degree incoming channel messages [])
   unfolding messages_tests
   messages_unknown e = rw e
 
-  pub messages_taken : (d : Degree) → (refusal (messages_tests degree incoming channel messages []) ≡ 0) × (named degree ≡ Known d)
+  pub messages_taken : (d : Degree) → (refusal (messages_tests degree incoming channel messages []) ≡ 0) × (named degree ≡ Some d)
       → Cells 3 (size d) incoming × Cells 3 (size d) channel × (length messages ≡ size d)
   unfolding messages_tests
   messages_taken d h =
@@ -242,6 +223,6 @@ module _ (d : Degree) (incoming channel messages : List ℕ) {n : ℕ} (e : n �
   pub messages_refused : (why : Refusal) → number why ≡ refusal Before → number why ≡ refusal (messages_tests (bits d) incoming channel messages [])
   messages_refused why h = h ∙ sym (refusal_more Before Last (λ z. some_number why (h ∙ z))) ∙ messages_tests_lem
 
-  pub messages_last : (r : Call) → refusal Before ≡ 0 → Tested (bits d) Last r → Tested (bits d) (messages_tests (bits d) incoming channel messages []) r
+  pub messages_last : (r : Result Degree Refusal) → refusal Before ≡ 0 → Tested (bits d) Last r → Tested (bits d) (messages_tests (bits d) incoming channel messages []) r
   messages_last r z h =
       tested_known (bits d) d Last (messages_tests (bits d) incoming channel messages []) r (bits_named d) (sym (refusal_rest Before Last tt z) ∙ messages_tests_lem) h

@@ -1,8 +1,8 @@
 -- What a packed word and a packed line tell of a row: the digits of the word are the cells, and a line packs one list only.
 -- Assumes nothing.
-use mathlib.Core.Path.{◌≡◌, refl, sym, ap, ap₂, ◌∙◌, subst}
+use mathlib.Core.Path.{◌≡◌, refl, sym, ap, ap₂, ◌∙◌}
 use mathlib.Core.List.{List, [], ◌∷◌}
-use Prim.Native.Nat.{ℕ, zero, suc, ◌*◌, ◌%◌, ◌≤◌, ◌<◌}
+use Prim.Native.Nat.{ℕ, zero, suc, ◌*◌, ◌%◌, ◌≤◌}
 use native.Mathlib.Nat.{le_refl, le_of_suc-le-suc, not-suc-le-zero}
 use native.Mathlib.Omega.{arith}
 use lib.Bits.{bit_or, bit_xor}
@@ -18,10 +18,10 @@ use Rattle.field.proofs.Primitive.{primitive}
 use Rattle.laws.specs.Digits.{sum_over, ones_in, digits}
 use Rattle.field.specs.Working.Checks.{IsSyndrome}
 use Rattle.field.specs.Working.Places.{IsPlace}
+use Rattle.field.specs.declared.locate.Place.{Place}
 use Rattle.line.specs.declared.packed.Line.{Line}
 use Rattle.words.specs.Working.Word.{value, width}
-use Rattle.line.specs.Cells.{cell}
-use Rattle.line.specs.Working.Packed.{IsLine, is_one, pack_by, Packs, PacksWord}
+use Rattle.line.specs.Working.Packed.{is_one, pack_by, Packs, PacksWord}
 use Rattle.line.proofs.CellLaws.{Bits}
 use Rattle.line.proofs.Packing.{cell_of_line, bit_of_word}
 
@@ -53,7 +53,7 @@ word_sums {d} p q =
     }
 
 -- and so is its place
-pub word_place : {d : Degree} {ws : List ℕ} {w r : ℕ} → PacksWord (size d) ws w → IsPlace d (digits width w) r → IsPlace d ws r
+pub word_place : {d : Degree} {ws : List ℕ} {w : ℕ} {r : Place} → PacksWord (size d) ws w → IsPlace d (digits width w) r → IsPlace d ws r
 word_place {d} p q =
     let front = word_digits (order d) (omega arith) p in
     record {
@@ -76,14 +76,7 @@ size_room d = (primitive d).room
 pub size_eights : (d : Degree) → size d % 8 ≡ 0
 size_eights d = omega (arith, (primitive d).bytes)
 
--- what packing a row asks for
-pub packable : (d : Degree) {l : List ℕ} → IsLine (size d) l → (length l ≤ width) × (length l % 8 ≡ 0) × ((i : ℕ) → cell l i < 3)
-packable d h = (rw h.long (size_room d), rw h.long (size_eights d), h.small)
-
 -- ---- a line
-
-pub sized : {n m : ℕ} {cs : List ℕ} {l : Line} → n ≡ m → Packs n cs l → Packs m cs l
-sized {cs} {l} e p = subst (λ (k : ℕ). Packs k cs l) e p
 
 -- a packed line says what its cells are
 pub packs_one : {n : ℕ} {cs ds : List ℕ} {l : Line} → Packs n cs l → Packs n ds l → cs ≡ ds

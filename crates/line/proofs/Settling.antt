@@ -7,7 +7,6 @@ use mathlib.Core.List.{List}
 use Prim.Native.Nat.{ℕ, ◌+◌, ◌*◌, ◌<◌}
 use native.Mathlib.Omega.{arith}
 use lib.Dec.{eqb}
-use lib.ListN.{set}
 use borrow.Author.Tests.{lt-ltb, eqb-true, eqb-false}
 use Rattle.laws.specs.Bits.{bit}
 use Rattle.degree.specs.declared.Degree.{Degree}
@@ -16,20 +15,18 @@ use Rattle.line.specs.declared.side.Side.{Side}
 use Rattle.line.specs.declared.side.Side.TheVariants.{One, Two}
 use Rattle.line.specs.declared.clause.Clause.{Clause}
 use Rattle.line.specs.declared.clause.Clause.TheVariants.{Equal, Crowded, Both, Neither, Agreeing, Unchanged, Open, Afresh, Channel}
-use Rattle.line.specs.declared.packed.Line.{Line}
-use Rattle.line.specs.declared.bounded.Tried.{Tried}
+use Rattle.line.specs.declared.bounded.Correction.{Correction}
+use Rattle.std.specs.Prelude.{Option, None}
 use Rattle.line.specs.declared.clause.Base.{Base}
 use Rattle.line.specs.Cells.{cell, is_erased, erasures, few, filled, designed_distance}
-use Rattle.line.specs.Bounded.{Answer, Failed, bounded}
+use Rattle.line.specs.Bounded.{Answer, bounded}
 use Rattle.line.specs.Decoding.{replaced, message}
 use Rattle.line.specs.Working.Settled.{if_near, settled}
-use Rattle.line.specs.Clauses.{reach, same, agrees, first_fit, by_reach, cost, clause}
+use Rattle.line.specs.Clauses.{answer_cell, reach, same, agrees, first_fit, by_reach, cost, clause}
 use Rattle.line.specs.Working.Packed.{Packs}
-use Rattle.words.specs.Working.Word.{value}
-use Rattle.line.specs.Working.Tries.{Answers, failed, found}
+use Rattle.line.specs.Working.Tries.{Answers, failed}
 use Rattle.line.specs.Working.Fillings.{Based, tried_of, start}
 use Rattle.line.proofs.CellLaws.{erased_or_known}
-use Rattle.line.proofs.Packing.{packed_as}
 use Rattle.line.proofs.Distances.{bounded_decoder}
 use Rattle.line.proofs.ClauseLaws.{changed, clause_settles}
 use Rattle.line.proofs.CountLaws.{few_cost}
@@ -38,15 +35,15 @@ use Rattle.line.proofs.Starting.{equal_start}
 
 -- ---- an answer, where it is in reach
 
-near_answer : {n : ℕ} {p : Answer} {t : Tried} (v : Tried) (x : Bool) → Answers n p t → v.found ≡ (t.found && x) → value v.word ≡ value t.word → Answers n (cond x p Failed) v
-near_answer v true (failed e) g h = failed (g ∙ rw e)
-near_answer v true (found {c} e w) g h = found {c = c} {t = v} (g ∙ rw e) (packed_as h w)
-near_answer {t} v false a g h = failed (g ∙ and-false t.found)
-
-pub near_at : (d : Degree) (ys rs : List ℕ) (f k : ℕ) (s : Side) (t v : Tried) (x : Bool) → Answers (size d) (bounded d (filled s ys f)) t → x ≡ reach (bounded d) ys rs f k s
-    → v.found ≡ (t.found && x) → value v.word ≡ value t.word → Answers (size d) (if_near (bounded d (filled s ys f)) (filled s (replaced ys rs k) f)) v
+pub near_some : (d : Degree) (ys rs : List ℕ) (f k : ℕ) (s : Side) {t : Option Correction} → Answers (size d) (bounded d (filled s ys f)) t → true ≡ reach (bounded d) ys rs f k s
+    → Answers (size d) (if_near (bounded d (filled s ys f)) (filled s (replaced ys rs k) f)) t
 unfolding reach
-near_at d ys rs f k s t v x a e g h = rw (← e) (near_answer v x a g h)
+near_some d ys rs f k s a e = rw (← e) a
+
+pub near_none : (d : Degree) (ys rs : List ℕ) (f k : ℕ) (s : Side) → false ≡ reach (bounded d) ys rs f k s
+    → Answers (size d) (if_near (bounded d (filled s ys f)) (filled s (replaced ys rs k) f)) None
+unfolding reach
+near_none d ys rs f k s e = rw (← e) failed
 
 -- ---- the clauses
 
@@ -120,7 +117,7 @@ module _ {d : Degree} {ys rs : List ℕ} {f k : ℕ} {b : Base} (hk : k < size d
   equal_cell e g = g ∙ equal_start d ys rs f (few_of e refl) k (rw q.cells.long hk) (equal_cells e)
 
   -- what filling s gave, where the erasures are few
-  pub tried_few : few ys ≡ true → (s : Side) {t : Tried} → t ≡ tried_of b s → Answers (size d) (bounded d (filled s ys f)) t
+  pub tried_few : few ys ≡ true → (s : Side) {t : Option Correction} → t ≡ tried_of b s → Answers (size d) (bounded d (filled s ys f)) t
   tried_few e s g = subst (Answers (size d) (bounded d (filled s ys f))) (sym g) (go s)
     where
       go : (s : Side) → Answers (size d) (bounded d (filled s ys f)) (tried_of b s)
@@ -159,6 +156,16 @@ module _ {d : Degree} {ys rs : List ℕ} {f k : ℕ} {b : Base} (hk : k < size d
       → (v ≡ message (bounded d) ys rs f k) × (m ≡ i + cost (clause (bounded d) ys rs f k))
   settled_message i e h = rw (clause_settles d ys rs f k p.cells q.cells hk, ← e) h
 
-pub replaced_line : {n k x : ℕ} {ys rs : List ℕ} {y r z : Line} → Packs n ys y → Packs n rs r → k < n → x ≡ cell rs k → (k < n → x < 3 → Packs n (set ys k x) z) → Packs n (replaced ys rs k) z
-replaced_line {n} {k} {x} {ys} {rs} {z} p q hk e h =
-    subst (λ (c : ℕ). Packs n (set ys k c) z) e (h hk (let s : cell rs k < 3 = q.cells.small k in omega arith))
+module _ {d : Degree} {ys rs : List ℕ} {f k : ℕ} {b : Base} (hk : k < size d) (B : Based d ys rs f b) {v : Clause} {x : ℕ} (i : ℕ) where
+  -- the cell of a codeword in reach
+  pub reached_settled : {s : Side} → (v ≡ Agreeing s) ⊎ (v ≡ Unchanged s) → v ≡ clause (bounded d) ys rs f k
+      → (few ys ≡ true → x ≡ answer_cell (bounded d) ys rs f k (bounded d (filled s ys f))) → (x ≡ settled (bounded d) ys rs f k v) × (i ≡ i + cost v)
+  unfolding settled
+  reached_settled (inl t) g h = rw t (h (few_of hk B (sym t ∙ g) refl), omega arith)
+  reached_settled (inr t) g h = rw t (h (few_of hk B (sym t ∙ g) refl), omega arith)
+
+  -- the channel's cell
+  pub channel_settled : (v ≡ Neither) ⊎ (v ≡ Channel) → x ≡ cell rs k → (x ≡ settled (bounded d) ys rs f k v) × (i ≡ i + cost v)
+  unfolding settled
+  channel_settled (inl t) h = rw t (h, omega arith)
+  channel_settled (inr t) h = rw t (h, omega arith)

@@ -1,13 +1,15 @@
 -- Bounded-distance decoding in packed words: from the located positions and the parity to the answer.
 -- Assumes nothing.
 use mathlib.Core.Path.{◌≡◌, refl, sym, ap, ◌∙◌, subst}
-use mathlib.Core.Bool.{Bool, true, false, cond, true≢false}
+use mathlib.Core.Bool.{Bool, true, false, cond}
 use mathlib.Core.Logic.{◌≢◌}
 use mathlib.Core.List.{List}
 use Prim.Native.Nat.{ℕ, zero, suc, ◌+◌, ◌/◌, ◌%◌, ◌<◌, ◌≤◌}
 use native.Mathlib.Omega.{arith}
-use lib.Dec.{eqb, leb}
+use lib.Dec.{eqb}
+use borrow.Author.Tests.{ne_eqb}
 use Rattle.degree.specs.declared.Degree.{Degree}
+use Rattle.field.specs.declared.locate.Place.{Place}
 use Rattle.field.specs.declared.locate.Positions.{Positions}
 use Rattle.field.specs.declared.locate.Positions.TheVariants.{Zero, One, Two, Unfit}
 use Rattle.degree.specs.Degree.{size, order}
@@ -17,7 +19,8 @@ use Rattle.field.specs.Working.Places.{positions_of, IsPlace}
 use Rattle.field.specs.Working.Positions.{located, usable, Below}
 use Rattle.field.proofs.Primitive.{primitive}
 use Rattle.field.proofs.Locating.{one≢unfit, two≢unfit, located_fits, located_none, located_below, usable_below, usable_same}
-use Rattle.line.specs.declared.bounded.Tried.{Tried}
+use Rattle.line.specs.declared.bounded.Correction.{Correction}
+use Rattle.std.specs.Prelude.{Option, None, Some, IfSome}
 use Rattle.line.specs.Cells.{IsWord, flip}
 use Rattle.line.specs.Bounded.{bounded, changed}
 use Rattle.line.specs.Working.Packed.{PacksWord}
@@ -47,34 +50,44 @@ module _ (d : Degree) (ws : List ℕ) where
       let b = cond (eqb (number / 2 % 2) 1) (flip j a) a in
       cond (eqb ((number + 1) / 2 % 2) 1) (flip i b) b
 
-  pub answer_by : {t : Tried} (number parity i j : ℕ) → number < 4 → parity < 2
-      → t.found ≡ leb (number + (number + parity) % 2) 2 → t.changed ≡ number + (number + parity) % 2
-      → (t.found ≡ true → PacksWord (size d) (flips number parity i j) (value t.word))
-      → (p : Positions) → p ≡ cond (eqb number 0) Zero (cond (eqb number 1) (One i) (cond (eqb number 2) (Two i j) Unfit))
-      → Mends d ws p (eqb parity 0) t
-  answer_by number parity i j h k = go number h parity k
-    where
-      gone : (b : Bool) {m n : ℕ} → b ≡ false → b ≡ true → m ≡ n
-      gone b f z = absurd (true≢false (sym z ∙ f))
+  module _ (i j : ℕ) where
+    -- what an entry with that number of positions stands for
+    abbrev entry_is : ℕ → Positions
+    entry_is number = cond (eqb number 0) Zero (cond (eqb number 1) (One i) (cond (eqb number 2) (Two i j) Unfit))
 
-      go : (number : ℕ) → number < 4 → (parity : ℕ) → parity < 2
-          → {t : Tried} → t.found ≡ leb (number + (number + parity) % 2) 2 → t.changed ≡ number + (number + parity) % 2
-          → (t.found ≡ true → PacksWord (size d) (flips number parity i j) (value t.word))
-          → (p : Positions) → p ≡ cond (eqb number 0) Zero (cond (eqb number 1) (One i) (cond (eqb number 2) (Two i j) Unfit))
-          → Mends d ws p (eqb parity 0) t
-      go zero h zero k f c q p e = rw e (record { answer = found f (q f); changed = λ _. c })
-      go zero h (suc zero) k f c q p e = rw e (record { answer = found f (q f); changed = λ _. c })
-      go zero h (suc (suc y)) k f c q p e = absurd (omega arith)
-      go (suc zero) h zero k f c q p e = rw e (record { answer = found f (q f); changed = λ _. c })
-      go (suc zero) h (suc zero) k f c q p e = rw e (record { answer = found f (q f); changed = λ _. c })
-      go (suc zero) h (suc (suc y)) k f c q p e = absurd (omega arith)
-      go (suc (suc zero)) h zero k f c q p e = rw e (record { answer = found f (q f); changed = λ _. c })
-      go (suc (suc zero)) h (suc zero) k f c q p e = rw e (record { answer = failed f; changed = gone _ f })
-      go (suc (suc zero)) h (suc (suc y)) k f c q p e = absurd (omega arith)
-      go (suc (suc (suc zero))) h zero k f c q p e = rw e (record { answer = failed f; changed = gone _ f })
-      go (suc (suc (suc zero))) h (suc zero) k f c q p e = rw e (record { answer = failed f; changed = gone _ f })
-      go (suc (suc (suc zero))) h (suc (suc y)) k f c q p e = absurd (omega arith)
-      go (suc (suc (suc (suc x)))) h y k f c q p e = absurd (omega arith)
+    -- at most two cells are changed
+    pub some_mends : (number parity : ℕ) → parity < 2 → number + (number + parity) % 2 ≤ 2 → {m : Correction} → m.changed ≡ number + (number + parity) % 2
+        → PacksWord (size d) (flips number parity i j) (value m.word) → (p : Positions) → p ≡ entry_is number → Mends d ws p (eqb parity 0) (Some m)
+    some_mends zero zero k l c q p e = rw e (record { answer = found q; changed = c })
+    some_mends zero (suc zero) k l c q p e = rw e (record { answer = found q; changed = c })
+    some_mends zero (suc (suc y)) k l c q p e = absurd (omega arith)
+    some_mends (suc zero) zero k l c q p e = rw e (record { answer = found q; changed = c })
+    some_mends (suc zero) (suc zero) k l c q p e = rw e (record { answer = found q; changed = c })
+    some_mends (suc zero) (suc (suc y)) k l c q p e = absurd (omega arith)
+    some_mends (suc (suc zero)) zero k l c q p e = rw e (record { answer = found q; changed = c })
+    some_mends (suc (suc zero)) (suc zero) k l c q p e = absurd (omega arith)
+    some_mends (suc (suc zero)) (suc (suc y)) k l c q p e = absurd (omega arith)
+    some_mends (suc (suc (suc x))) y k l c q p e = absurd (omega arith)
+
+    -- more than two are too many
+    pub none_mends : (number parity : ℕ) → parity < 2 → 2 < number + (number + parity) % 2
+        → (p : Positions) → p ≡ entry_is number → Mends d ws p (eqb parity 0) None
+    none_mends zero zero k l p e = absurd (omega arith)
+    none_mends zero (suc zero) k l p e = absurd (omega arith)
+    none_mends zero (suc (suc y)) k l p e = absurd (omega arith)
+    none_mends (suc zero) zero k l p e = absurd (omega arith)
+    none_mends (suc zero) (suc zero) k l p e = absurd (omega arith)
+    none_mends (suc zero) (suc (suc y)) k l p e = absurd (omega arith)
+    none_mends (suc (suc zero)) zero k l p e = absurd (omega arith)
+    none_mends (suc (suc zero)) (suc zero) k l p e = rw e (record { answer = failed; changed = tt })
+    none_mends (suc (suc zero)) (suc (suc y)) k l p e = absurd (omega arith)
+    none_mends (suc (suc (suc x))) y k l p e = rw (e ∙ unfit) (record { answer = failed; changed = tt })
+      where
+        n : ℕ
+        n = suc (suc (suc x))
+
+        unfit : entry_is n ≡ Unfit
+        unfit = rw (ne_eqb n 0 (λ z. omega arith), ne_eqb n 1 (λ z. omega arith), ne_eqb n 2 (λ z. omega arith)) refl
 
 -- where a word is mended, the positions of its entry are cells: the first of one or two, and the second of two
 module _ (n e parity : ℕ) (small : parity < 2) (few : e / 16384 + (e / 16384 + parity) % 2 ≤ 2) (h : Below n (usable (eqb parity 0) (positions_of e))) where
@@ -116,10 +129,14 @@ changes_is d ws l (Two i j) true f = let w = (f two≢unfit).within in sym (flip
 changes_is d ws l (Two i j) false f = refl
 changes_is d ws l Unfit even f = refl
 
-pub tried_bounded : (d : Degree) (r : ℕ) {ws : List ℕ} {w : ℕ} {t : Tried} → PacksWord (size d) ws w → IsPlace d ws r
-    → Mends d ws (positions_of (r % 65536)) (eqb (r / 65536) 0) t → Decodes d ws t
+same_number : (t : Option Correction) {a b : ℕ} → IfSome t (λ m. m.changed ≡ a) → a ≡ b → IfSome t (λ m. m.changed ≡ b)
+same_number None h e = tt
+same_number (Some m) h e = h ∙ e
+
+pub tried_bounded : (d : Degree) (r : Place) {ws : List ℕ} {w : ℕ} {t : Option Correction} → PacksWord (size d) ws w → IsPlace d ws r
+    → Mends d ws (positions_of r.entry) (eqb r.parity 0) t → Decodes d ws t
 tried_bounded d r {ws} {t} q place a =
-    let e = r % 65536 in
+    let e = r.entry in
     let p = located d (s1 d ws) (s3 d ws) in
     let even = eqb (parity d ws) 0 in
     let fits = located_fits d (s1 d ws) (s3 d ws) in
@@ -133,5 +150,5 @@ tried_bounded d r {ws} {t} q place a =
     let number : changes (positions_of e) even ≡ changes p even = sym (far (positions_of e)) ∙ ap (λ (x : Positions). changes x even) l ∙ far p in
     record {
       answer = rw (← alike) m.answer;
-      changed = λ f. m.changed f ∙ number ∙ changes_is d ws q.cells p even fits ∙ ap (changed ws) (sym is);
+      changed = same_number t m.changed (number ∙ changes_is d ws q.cells p even fits ∙ ap (changed ws) (sym is));
     }

@@ -26,14 +26,14 @@ use Rattle.laws.proofs.Xor.{digit_lt, xor_one}
 use Rattle.degree.specs.declared.Degree.{Degree}
 use Rattle.degree.specs.Degree.{size, order}
 use Rattle.field.proofs.Powers.{looked_up, looked_up_lem}
-use Rattle.words.specs.Working.Grid.{grid_size, word_in, word_put}
-use Rattle.words.proofs.GridLaws.{put_long, put_next}
+use Rattle.words.specs.declared.word.grid.Grid.{Grid}
+use Rattle.words.specs.Working.Grid.{word_in}
 use Rattle.line.specs.Cells.{IsWord}
 use Rattle.line.specs.Working.Packed.{is_one, pack_by, PacksWord}
 use Rattle.line.specs.Encoding.{check_size, message_size, sums, checks_for, check_cells, encode_line}
-use Rattle.line.specs.Working.Units.{unit_of, UnitWords, Units}
+use Rattle.line.specs.Working.Units.{unit_of, UnitChecks, Units}
 use Rattle.line.proofs.CellLaws.{Bits}
-use Rattle.line.proofs.Bounds.{size_le, message_le}
+use Rattle.line.proofs.Bounds.{size_le}
 use Rattle.line.proofs.LineEncoding.{inverse, length_checks, length_body, line_codeword, summed}
 
 -- the number of a word of cells is the word that packs them
@@ -93,33 +93,18 @@ module _ (d : Degree) where
       rw (sums_at_lem (check_size d + a)) (sym (encode_word m (digits_length (message_size d) (2 ^ a)) ∙ rw (parity, pack_digits (message_size d) (2 ^ a) (pow-lt h), s)))
 
   -- what a passed test says
-  pub units_rule : (entries : List ℕ) {t : List ℕ} → T (units? entries) → length entries ≡ message_size d → UnitWords d entries t → Units d t
+  pub units_rule : (entries : List ℕ) → T (units? entries) → length entries ≡ message_size d → UnitChecks d entries
   unfolding units?
-  units_rule entries h l w = record {
-    long = w.long;
-    at = λ a q. w.at a (rw l q) ∙ eqb→eq _ _ (every_at (λ a. eqb (unit_of d a (get_or entries a 0)) (unit_word a)) (message_size d) h q) ∙ unit_word_lem a q;
+  units_rule entries h l = record {
+    long = l;
+    at = λ a q. eqb→eq _ _ (every_at (λ a. eqb (unit_of d a (get_or entries a 0)) (unit_word a)) (message_size d) h q) ∙ unit_word_lem a q;
   }
 
   -- ---- a table of units made, a unit a turn
 
-  pub record Making (entries t : List ℕ) (a : ℕ) : Type 0 where
+  pub record Making (entries : List ℕ) (t : Grid) (a : ℕ) : Type 0 where
     pub low : a ≤ length entries
-    pub long : length t ≡ grid_size
-    pub made : (b : ℕ) → b < a → word_in t 0 b ≡ unit_of d b (get_or entries b 0)
-
-  pub making_start : (entries t : List ℕ) → length t ≡ grid_size → Making entries t 0
-  making_start entries t l = record { low = omega arith; long = l; made = λ b h. absurd (omega arith) }
-
-  pub making_next : {entries t : List ℕ} {a : ℕ} → Making entries t a → a < length entries → length entries ≡ message_size d
-      → (v : ℕ) → v ≡ unit_of d a (get_or entries a 0) → Making entries (word_put t 0 a v) (a + 1)
-  making_next {entries} {t} {a} w h l v e = record {
-    low = omega arith;
-    long = put_long t 0 a v ∙ w.long;
-    made = put_next (λ b y. y ≡ unit_of d b (get_or entries b 0)) t a v (omega (arith, message_le d l)) w.long w.made e;
-  }
-
-  pub making_end : {entries t : List ℕ} {a : ℕ} → Making entries t a → length entries ≤ a → UnitWords d entries t
-  making_end w h = record { long = w.long; at = λ b q. w.made b (omega arith) }
+    pub made : (b : ℕ) → b < a → word_in t b ≡ unit_of d b (get_or entries b 0)
 
   -- ---- an encoded line is linear in its message
 
@@ -159,9 +144,9 @@ module _ (d : Degree) where
 
   -- ---- with a table of units
 
-  module _ (t : List ℕ) (U : Units d t) where
+  module _ (t : Grid) (U : Units d t) where
     -- bit i of an entry is the weight of the message cell in cell i
-    pub unit_bit : (i a : ℕ) (q : i < size d) → a < message_size d → bit_at (word_in t 0 a) i ≡ (summed d i q).weight a
+    pub unit_bit : (i a : ℕ) (q : i < size d) → a < message_size d → bit_at (word_in t a) i ≡ (summed d i q).weight a
     unit_bit i a q h =
         let e = encode_line d (unit_at a) in
         ap (λ (x : ℕ). bit_at x i) (U.at a h)
@@ -170,7 +155,7 @@ module _ (d : Degree) where
         ∙ cell_digits i q (2 ^ a) ∙ digits_power (summed d i q).weight (message_size d) a h
 
     -- the sum of the entries at the ones of a message packs the encoded line
-    pub sum_packs : (m : List ℕ) → IsWord (message_size d) m → PacksWord (size d) (encode_line d m) (sum_over (λ a. word_in t 0 a) m)
+    pub sum_packs : (m : List ℕ) → IsWord (message_size d) m → PacksWord (size d) (encode_line d m) (sum_over (λ a. word_in t a) m)
     sum_packs m M =
         let l = M.long in
         let b : Bits m = M.small in
@@ -180,24 +165,24 @@ module _ (d : Degree) where
           room = size_le d refl;
           cells = (line_codeword d m l b).word;
           ones =
-              sum_cong (λ a. word_in t 0 a) (λ a. word (2 ^ a)) m (λ a z. U.at a (rw l at z))
+              sum_cong (λ a. word_in t a) (λ a. word (2 ^ a)) m (λ a z. U.at a (rw l at z))
               ∙ sym (sum_map word (λ a. 2 ^ a) m word_adds) ∙ ap (λ (x : List ℕ). pack (encode_line d x)) same ∙ sym (pack_packs (encode_line d m));
         }
 
 -- ---- the sum, a cell of the message a turn
 
 -- one cell more: its unit is added where it holds 1
-pub sum_next : (t m : List ℕ) (a : ℕ) {sum next : ℕ} → sum ≡ sum_over (λ j. word_in t 0 j) (take a m) → next ≡ bit_xor sum (cond (eqb (get_or m a 0) 1) (word_in t 0 a) 0)
-    → next ≡ sum_over (λ j. word_in t 0 j) (take (a + 1) m)
+pub sum_next : (t : Grid) (m : List ℕ) (a : ℕ) {sum next : ℕ} → sum ≡ sum_over (λ j. word_in t j) (take a m) → next ≡ bit_xor sum (cond (eqb (get_or m a 0) 1) (word_in t a) 0)
+    → next ≡ sum_over (λ j. word_in t j) (take (a + 1) m)
 sum_next t m a {sum} e f =
     f
-    ∙ sym (ap (λ (x : ℕ). sum_over (λ j. word_in t 0 j) (take x m)) (add-one a) ∙ sum_more (λ j. word_in t 0 j) m a ∙ ap₂ bit_xor (sym e) (picked (eqb (get_or m a 0) 1)))
+    ∙ sym (ap (λ (x : ℕ). sum_over (λ j. word_in t j) (take x m)) (add-one a) ∙ sum_more (λ j. word_in t j) m a ∙ ap₂ bit_xor (sym e) (picked (eqb (get_or m a 0) 1)))
   where
-    picked : (b : Bool) → elim b [ true ↦ word_in t 0 a | false ↦ 0 ] ≡ cond b (word_in t 0 a) 0
+    picked : (b : Bool) → elim b [ true ↦ word_in t a | false ↦ 0 ] ≡ cond b (word_in t a) 0
     picked true = refl
     picked false = refl
 
 -- after the last turn
-pub sum_encodes : (d : Degree) (t m : List ℕ) {sum a : ℕ} → Units d t → IsWord (message_size d) m → sum ≡ sum_over (λ j. word_in t 0 j) (take a m) → length m ≤ a
+pub sum_encodes : (d : Degree) (t : Grid) (m : List ℕ) {sum a : ℕ} → Units d t → IsWord (message_size d) m → sum ≡ sum_over (λ j. word_in t j) (take a m) → length m ≤ a
     → PacksWord (size d) (encode_line d m) sum
 sum_encodes d t m {sum} {a} U M e h = rw (e, take_all a m h) (sum_packs d t U m M)

@@ -1,14 +1,12 @@
--- When a call is turned down. Document 01: tests run in number order; the first that applies is returned with count 0, and
+-- When a call is turned down. The tests run in number order; the first that applies is returned with count 0, and
 -- every lent cell keeps its value. An entry omits a test for something it isn't given.
-use Rattle.std.specs.Prelude.{Bool, true, false, cond, not, ◌&&◌, ◌||◌, List, [], ◌∷◌, ℕ, ◌^◌, eqb, leb, length}
+use Rattle.std.specs.Prelude.{Bool, true, false, cond, not, ◌&&◌, ◌||◌, List, [], ◌∷◌, ℕ, ◌^◌, eqb, leb, length, Option, None, Some, Result, Ok, Err}
 use Rattle.degree.specs.declared.Degree.{Degree}
-use Rattle.degree.specs.declared.Named.{Named}
-use Rattle.degree.specs.declared.Named.TheVariants.{Known, Unknown}
 use Rattle.degree.specs.Degree.{named}
 use Rattle.line.specs.declared.refusals.Refusal.{Refusal}
 use Rattle.line.specs.declared.refusals.Refusal.TheVariants.{BadDegree, BadIterations, BadLength, BadCell, BadFile, BadSum, BadContent, BadSeed, TooMany}
 
--- the numbers of document 01's table, and those that document 02 adds to it: 5 to 7 are W-201's, 8 and 9 W-204's
+-- the numbers of the refusals: 1 to 4 are those of a call that lends cells, 5 to 7 of a file, 8 and 9 of a load
 abbrev pub number : Refusal → ℕ
 number BadDegree = 1
 number BadIterations = 2
@@ -19,6 +17,11 @@ number BadSum = 6
 number BadContent = 7
 number BadSeed = 8
 number TooMany = 9
+
+-- the refusal number of an answer, 0 for none
+abbrev pub refusal_of : {A : Type 0} → Result A Refusal → ℕ
+refusal_of (Ok x) = 0
+refusal_of (Err why) = number why
 
 -- ---- one table for all entries: a test is its number and whether it applies
 
@@ -32,9 +35,9 @@ abbrev pub unless_refused : {A : Type 0} → List (ℕ × Bool) → (asked refus
 unless_refused tests asked refused = cond (eqb (refusal tests) 0) asked refused
 
 -- what is asked for at the degree that a number names, else the other
-abbrev pub at_degree : {A : Type 0} → Named → (asked : Degree → A) (other : A) → A
-at_degree (Known d) asked other = asked d
-at_degree Unknown asked other = other
+abbrev pub at_degree : {A : Type 0} → Option Degree → (asked : Degree → A) (other : A) → A
+at_degree (Some d) asked other = asked d
+at_degree None asked other = other
 
 -- what a call gives: what is asked for at its degree where no test applies, else what a refused call gives
 unfoldable pub given : {A : Type 0} → (degree : ℕ) → List (ℕ × Bool) → (asked : Degree → A) (refused : A) → A
@@ -69,8 +72,8 @@ line_tests bound degree cells more =
     ∷ (3, some (misfit (length cells) (2 ^ degree) ∷ more))
     ∷ (4, not (at_most bound cells)) ∷ []
 
--- a call that lends an incoming and a channel line, and n cells for the messages: "old cells of a slice that is only written
--- are not tested"
+-- a call that lends an incoming and a channel line, and n cells for the messages: old cells of a slice that is only written are
+-- not tested
 unfoldable pub messages_tests : (degree : ℕ) (incoming channel messages : List ℕ) (more : List Bool) → List (ℕ × Bool)
 messages_tests degree incoming channel messages more =
     (1, unnamed degree)

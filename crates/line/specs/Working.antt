@@ -5,6 +5,5 @@ pub mod Packed
 pub mod Rows
 pub mod SentRows
 pub mod Settled
-pub mod Tables
 pub mod Tries
 pub mod Units

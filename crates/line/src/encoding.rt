@@ -1,22 +1,26 @@
 // Encoding a line on packed words, by a table of encoded units, which is made from a fixed table of their check cells for each degree.
-ghost use Rattle.std.specs.Prelude.{◌≡◌, ◌<◌, length};
+ghost use Rattle.std.specs.Prelude.{◌≡◌, ◌<◌};
 ghost use Rattle.degree.specs.Degree.{size};
 ghost use Rattle.line.specs.Cells.{IsWord};
 ghost use Rattle.line.specs.Working.Packed.{PacksWord};
 ghost use Rattle.line.specs.Encoding.{message_size, encode_line};
-ghost use Rattle.line.specs.Working.Units.{unit_of, UnitWords, Units};
-ghost use Rattle.words.specs.Working.Grid.{grid_size};
+ghost use Rattle.line.specs.Working.Units.{unit_of, UnitChecks, Units};
 ghost use Rattle.words.specs.Working.Word.{value};
 
 use crate::packed::Line;
-use degree::Degree;
-use words::word::grid::{Grid, put_word, word_in};
-use words::word::{Word, of_number, single, xor_where, xor_words, zero_word};
+use degree::{Degree, order_of};
+use words::word::grid::Grid;
+use words::word::{Word, single, xor_where, xor_words, zero_word};
 
-// A grid of words. Word a, below k: the encoded line of the message whose one 1 is cell a.
-pub type UnitTable = Grid;
+// The encoded lines of the messages with one 1: word a, below k, is that of cell a.
+#[derive(Clone, Copy)]
+pub struct UnitTable {
+    pub degree: Degree,
+    pub words: Grid,
+    pub ghost made: { Units degree words },
+}
 
-// Entry a: the check cells of that line, bit i being cell i, and in bit 14 its parity cell.
+// Entry a: the check cells of the line of unit a, bit i being cell i, and in bit 14 its parity cell.
 const CHECKS_FOUR: [u16; Line::K_FOUR] = [16593, 115, 230, 16413, 16442, 16500, 16616];
 
 const CHECKS_SIX: [u16; Line::K_SIX] = [
@@ -38,63 +42,62 @@ const CHECKS_SEVEN: [u16; Line::K_SEVEN] = [
     6323, 12646, 25019,
 ];
 
+// The entries of a degree.
+fn checks_of(d: Degree) -> &'static [u16]
+    ensures { UnitChecks d result.now }
+{
+    match d {
+        Degree::Four => &CHECKS_FOUR,
+        Degree::Six => &CHECKS_SIX,
+        Degree::Seven => &CHECKS_SEVEN,
+    }
+}
+
 // The word of a unit: its check cells, its one message cell and its parity cell.
 fn unit_word(d: Degree, a: usize, checks: u16) -> Word
     requires { a < message_size d }
     ensures { value result ≡ unit_of d a checks }
 {
     let cell = Line::check_cells(d) + a;
-    let last = Line::cells(d) - 1;
-    let check = of_number((checks % 16384) as u64);
+    let last = order_of(d);
+    let check = Word::from((checks % 16384) as u64);
     let message = single(1, cell as u32);
     let parity = single((checks / 16384 % 2) as u64, last as u32);
     xor_words(check, xor_words(message, parity))
 }
 
 // The words of the units, from their check cells.
-fn put_units(d: Degree, checks: &[u16], table: &mut [u64])
-    requires { (length checks.now ≡ message_size d) × (length table.old ≡ grid_size) }
-    ensures { UnitWords d checks.now table.new }
+fn unit_words(d: Degree) -> Grid
+    ensures { Units d result }
 {
-    let mut a = 0;
-    while a < checks.len() {
-        let unit = unit_word(d, a, checks[a]);
-        put_word(table, 0, a, unit);
-        a += 1;
+    let checks = checks_of(d);
+    let mut words = Grid::zero();
+    for (a, entry) in checks.iter().enumerate() {
+        words.put(a, unit_word(d, a, *entry));
     }
+    words
 }
 
-// The table of a degree, made in place. Each arm makes its own short table of check cells, so that no table is chosen by value.
-pub fn put_unit_table(d: Degree, table: &mut [u64])
-    requires { length table.old ≡ grid_size }
-    ensures { Units d table.new }
-{
-    match d {
-        Degree::Four => {
-            let checks = CHECKS_FOUR;
-            put_units(d, &checks, table);
-        }
-        Degree::Six => {
-            let checks = CHECKS_SIX;
-            put_units(d, &checks, table);
-        }
-        Degree::Seven => {
-            let checks = CHECKS_SEVEN;
-            put_units(d, &checks, table);
+impl UnitTable {
+    // The table of a degree.
+    pub fn new(degree: Degree) -> UnitTable
+        ensures { result.degree ≡ degree }
+    {
+        UnitTable {
+            degree,
+            words: unit_words(degree),
         }
     }
-}
 
-// A message, encoded: the sum of the units at its ones.
-pub fn encoded_word(d: Degree, units: &UnitTable, message: &[u8]) -> Word
-    requires { Units d units.now × IsWord (message_size d) message.now }
-    ensures { PacksWord (size d) (encode_line d message.now) (value result) }
-{
-    let mut sum = zero_word();
-    let mut a = 0;
-    while a < message.len() {
-        sum = xor_where(message[a] == 1, sum, word_in(units, 0, a));
-        a += 1;
+    // A message, encoded: the sum of the units at its ones.
+    pub fn encoded_word(&self, message: &[u8]) -> Word
+        requires { IsWord (message_size self.now.degree) message.now }
+        ensures { PacksWord (size self.now.degree) (encode_line self.now.degree message.now) (value result) }
+    {
+        let mut sum = zero_word();
+        for (a, cell) in message.iter().enumerate() {
+            sum = xor_where(*cell == 1, sum, self.words.word(a));
+        }
+        sum
     }
-    sum
 }

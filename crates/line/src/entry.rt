@@ -1,6 +1,6 @@
 // The entries: what a caller outside may use. Each takes plain numbers and lent slices, asks nothing of them, and tests them
-// in document 01's order.
-ghost use Rattle.std.specs.Prelude.{◌≡◌, cond, [], ℕ, ◌%◌, length};
+// in the order of the refusals' numbers.
+ghost use Rattle.std.specs.Prelude.{◌≡◌, [], ℕ, ◌%◌, length};
 ghost use Rattle.degree.specs.Degree.{size};
 ghost use Rattle.line.specs.Working.Packed.{IsLine, Packs};
 ghost use Rattle.line.specs.Cells.{IsWord, filling_word};
@@ -11,90 +11,48 @@ ghost use Rattle.line.specs.Clauses.{count as count_by};
 ghost use Rattle.line.specs.Working.Tries.{Answers};
 ghost use Rattle.line.specs.Entries.{line_numbers, Answered, WordAnswered, BoundedDone, DecodeLineDone, MessagesDone};
 
-use crate::bounded::{Tried, bounded_word};
+use crate::bounded::{Correction, bounded_word};
 use crate::decoding::{or_back, try_packed};
 use crate::messages::messages_of;
-use crate::packed::{Line, ones_of, pack, unpack};
-use crate::refusals::{Call, Refusal, line_test, messages_test};
+use crate::packed::Line;
+use crate::refusals::{Refusal, line_test, messages_test};
 use crate::row::update_row;
-use crate::tables::{LINE_ENTRIES, put_line_tables};
+use crate::tables::{LineEntries, LineTables};
 use degree::Degree;
 use words::word::{Word, of_numbers};
-
-// An answer to a full word: how many cells were changed, where a codeword was found.
-#[derive(Clone, Copy)]
-pub enum WordAnswer {
-    Refused(Refusal),
-    Failed,
-    Found(u64),
-}
-
-#[derive(Clone, Copy)]
-pub enum LineAnswer {
-    Refused(Refusal),
-    Failed,
-    Found,
-}
-
-#[derive(Clone, Copy)]
-pub enum MessagesAnswer {
-    Refused(Refusal),
-    Written(u64),
-}
 
 // ---- one word, one line
 
 // What was found is written in place of the cells; cells that failed stay as they came.
-fn put_found(cells: &mut [u8], y: Line, t: Tried)
+fn put_found(cells: &mut [u8], y: Line, tried: Option<Correction>)
     requires { length cells.old % 8 ≡ 0 }
-    ensures { (n : ℕ) (p : Answer) → Packs n cells.old y → Answers n p t → cells.new ≡ or_back cells.old p }
+    ensures { (n : ℕ) (p : Answer) → Packs n cells.old y → Answers n p tried → cells.new ≡ or_back cells.old p }
 {
-    update_row(cells, y, or_back(y, t))
+    update_row(cells, y, or_back(y, tried))
 }
 
-fn word_answer(t: Tried) -> WordAnswer
-    ensures { result ≡ cond t.found (WordAnswer.Found t.changed) WordAnswer.Failed }
-{
-    if t.found {
-        WordAnswer::Found(t.changed)
-    } else {
-        WordAnswer::Failed
-    }
-}
-
-fn line_answer(t: Tried) -> LineAnswer
-    ensures { result ≡ cond t.found LineAnswer.Found LineAnswer.Failed }
-{
-    if t.found {
-        LineAnswer::Found
-    } else {
-        LineAnswer::Failed
-    }
-}
-
-fn bounded_taken(d: Degree, word: &mut [u8]) -> WordAnswer
+fn bounded_taken(d: Degree, word: &mut [u8]) -> Option<u64>
     requires { IsWord (size d) word.old }
-    ensures { WordAnswered 0 (bounded d word.old) word.old word.new result }
+    ensures { WordAnswered 0 (bounded d word.old) word.old word.new (Ok result) }
 {
-    let mut tables = [0u16; LINE_ENTRIES];
-    put_line_tables(d, &mut tables);
-    let y = pack(word);
-    let t = bounded_word(d, ones_of(y), &tables); // no cell of a full word is unsure
-    put_found(word, y, t);
-    word_answer(t)
+    let mut entries = LineEntries::new();
+    let tables = LineTables::new(d, &mut entries);
+    let y = Line::pack(word);
+    let tried = bounded_word(y.ones, &tables); // no cell of a full word is unsure
+    put_found(word, y, tried);
+    tried.map(|found| found.changed)
 }
 
-fn decode_taken(d: Degree, cells: &mut [u8], filling: Word) -> LineAnswer
+fn decode_taken(d: Degree, cells: &mut [u8], filling: Word) -> bool
     requires { IsLine (size d) cells.old }
-    ensures { Answered 0 (decode (bounded d) cells.old (value filling)) cells.old cells.new (line_numbers result) }
+    ensures { Answered 0 (decode (bounded d) cells.old (value filling)) cells.old cells.new (line_numbers (Ok result)) }
 {
-    let mut tables = [0u16; LINE_ENTRIES];
-    put_line_tables(d, &mut tables);
-    let y = pack(cells);
-    let t = try_packed(d, y, filling, 0, &tables);
-    let tried = t.tried;
-    put_found(cells, y, tried);
-    line_answer(tried)
+    let mut entries = LineEntries::new();
+    let tables = LineTables::new(d, &mut entries);
+    let y = Line::pack(cells);
+    let tried = try_packed(y, filling, 0, &tables);
+    put_found(cells, y, tried.value);
+    tried.value.is_some()
 }
 
 // The messages are written, the count is handed back.
@@ -102,37 +60,36 @@ fn send_taken(d: Degree, incoming: &[u8], channel: &[u8], filling: Word, message
     requires { IsLine (size d) incoming.now × IsLine (size d) channel.now × (length messages.old ≡ size d) }
     ensures { (result ≡ count_by (bounded d) incoming.now channel.now (value filling)) × (messages.new ≡ messages_by (bounded d) incoming.now channel.now (value filling)) }
 {
-    let mut tables = [0u16; LINE_ENTRIES];
-    put_line_tables(d, &mut tables);
-    let y = pack(incoming);
-    let r = pack(channel);
-    let sent = messages_of(d, y, r, filling, &tables);
-    unpack(sent.line, messages);
+    let mut entries = LineEntries::new();
+    let tables = LineTables::new(d, &mut entries);
+    let y = Line::pack(incoming);
+    let r = Line::pack(channel);
+    let sent = messages_of(y, r, filling, &tables);
+    sent.value.unpack(messages);
     sent.count
 }
 
 // ---- the entries
 
-// Bounded-distance decoding of a full word, in place: found, with the number of cells that it changed, or failed.
-pub fn bounded_distance(degree: u64, word: &mut [u8]) -> WordAnswer
+// Bounded-distance decoding of a full word, in place: the number of cells that it changed, or none where it failed.
+pub fn bounded_distance(degree: u64, word: &mut [u8]) -> Result<Option<u64>, Refusal>
     ensures { BoundedDone degree word.old [] word.new result }
 {
-    let call = line_test(degree, word, 1);
-    match call {
-        Call::Taken(d) => bounded_taken(d, word),
-        Call::Refused(why) => WordAnswer::Refused(why),
-    }
+    let d = line_test(degree, word, 1)?;
+    Ok(bounded_taken(d, word))
 }
 
-// Line decoding, in place, with a filling word of two numbers.
-pub fn decode_line(degree: u64, cells: &mut [u8], filling_low: u64, filling_high: u64) -> LineAnswer
+// Line decoding, in place, with a filling word of two numbers: did it find a codeword?
+pub fn decode_line(
+    degree: u64,
+    cells: &mut [u8],
+    filling_low: u64,
+    filling_high: u64,
+) -> Result<bool, Refusal>
     ensures { DecodeLineDone degree (filling_word filling_low filling_high) cells.old [] cells.new result }
 {
-    let call = line_test(degree, cells, 2);
-    match call {
-        Call::Taken(d) => decode_taken(d, cells, of_numbers(filling_low, filling_high)),
-        Call::Refused(why) => LineAnswer::Refused(why),
-    }
+    let d = line_test(degree, cells, 2)?;
+    Ok(decode_taken(d, cells, of_numbers(filling_low, filling_high)))
 }
 
 // The outgoing messages of a line, written to `messages`, and its count.
@@ -143,18 +100,10 @@ pub fn line_messages(
     filling_low: u64,
     filling_high: u64,
     messages: &mut [u8],
-) -> MessagesAnswer
+) -> Result<u64, Refusal>
     ensures { MessagesDone degree incoming.now channel.now (filling_word filling_low filling_high) messages.old [] messages.new result }
 {
-    let call = messages_test(degree, incoming, channel, messages);
-    match call {
-        Call::Taken(d) => MessagesAnswer::Written(send_taken(
-            d,
-            incoming,
-            channel,
-            of_numbers(filling_low, filling_high),
-            messages,
-        )),
-        Call::Refused(why) => MessagesAnswer::Refused(why),
-    }
+    let d = messages_test(degree, incoming, channel, messages)?;
+    let filling = of_numbers(filling_low, filling_high);
+    Ok(send_taken(d, incoming, channel, filling, messages))
 }

@@ -1,4 +1,4 @@
-// A line packed in words. Only this module knows how.
+// A line packed in two words.
 ghost use Rattle.std.specs.Prelude.{◌≡◌, List, ℕ, ◌*◌, ◌<◌, ◌≤◌, ◌%◌, length, set};
 ghost use Rattle.std.specs.Int.Bits.{bit_and, bit_or, bit_xor};
 ghost use Rattle.degree.specs.Degree.{size};
@@ -7,16 +7,18 @@ ghost use Rattle.words.specs.Working.Word.{value, width};
 ghost use Rattle.line.specs.Encoding.{check_size, message_size};
 ghost use Rattle.line.specs.Working.Packed.{Packs, PacksWord, side_word, known_else};
 
+use crate::number::CellNumber;
 use crate::side::Side;
 use degree::Degree;
 use words::word::pairs::{gather_pair, spread_pair};
 use words::word::{
-    Word, and_words, bit_at, count_bits, is_zero, not_word, or_words, put_bit, same_word, without,
-    xor_words, zero_word,
+    Word, and_words, bit_at, count_bits, is_zero, not_word, or_words, put_bit, without, xor_words,
+    zero_word,
 };
 
-// Bit i of `ones` says that cell i is 1, bit i of `erased` that it is unsure.
-#[derive(Clone, Copy)]
+// Bit i of `ones` says that cell i is 1, bit i of `erased` that it is unsure. Which cells it packs (`Packs`) is not kept in the type: it
+// does not know how many there are, and words in which a cell is both 1 and unsure pack none.
+#[derive(Clone, Copy, Debug, PartialEq, Eq)]
 pub struct Line {
     pub ones: Word,
     pub erased: Word,
@@ -41,7 +43,7 @@ impl Line {
 
     pub const DISTANCE: u32 = 6;
 
-    // n
+    // n. The sizes of a line belong to its type, so it stands here and not with the degree alone.
     pub fn cells(d: Degree) -> usize
         ensures { result ≡ size d }
     {
@@ -79,85 +81,137 @@ impl Line {
     {
         Line { ones, erased }
     }
-}
 
-// A full word as a line without erasures.
-pub fn full(word: Word) -> Line
-    ensures { (n : ℕ) (ws : List ℕ) → PacksWord n ws (value word) → Packs n ws result }
-{
-    let none = zero_word();
-    Line {
-        ones: word,
-        erased: none,
+    // A full word as a line without erasures.
+    pub fn full(word: Word) -> Line
+        ensures { (n : ℕ) (ws : List ℕ) → PacksWord n ws (value word) → Packs n ws result }
+    {
+        let none = zero_word();
+        Line {
+            ones: word,
+            erased: none,
+        }
     }
-}
 
-// The cells that are 1.
-pub fn ones_of(l: Line) -> Word
-    ensures { result ≡ l.ones }
-{
-    l.ones
-}
+    // ---- cells
 
-// The cells that are unsure.
-pub fn erased_of(l: Line) -> Word
-    ensures { result ≡ l.erased }
-{
-    l.erased
-}
+    pub fn cell_at(self, k: CellNumber) -> u64
+        ensures { (result < 4) × ((n : ℕ) (cs : List ℕ) → Packs n cs self → result ≡ cell cs k.number) }
+    {
+        bit_at(self.ones, k.number) + 2 * bit_at(self.erased, k.number)
+    }
 
-// ---- cells
+    // The line with cell k made c.
+    pub fn put(self, k: CellNumber, c: u64) -> Line
+        ensures { (n : ℕ) (cs : List ℕ) → Packs n cs self → k.number < n → c < 3 → Packs n (set cs k.number c) result }
+    {
+        Line {
+            ones: put_bit(self.ones, k.number, c % 2),
+            erased: put_bit(self.erased, k.number, c / 2 % 2),
+        }
+    }
 
-pub fn cell_at(l: Line, k: u32) -> u64
-    requires { k < width }
-    ensures { (result < 4) × ((n : ℕ) (cs : List ℕ) → Packs n cs l → result ≡ cell cs k) }
-{
-    bit_at(l.ones, k) + 2 * bit_at(l.erased, k)
+    // ---- fillings, erasures, distances
+
+    // Word one and word two.
+    pub fn fill(self, filling: Word) -> [Word; 2]
+        ensures { (n : ℕ) (cs : List ℕ) → Packs n cs self → (s : Side) → PacksWord n (filled s cs (value filling)) (value (side_word s result)) }
+    {
+        let one = or_words(self.ones, and_words(self.erased, filling));
+        let two = xor_words(one, self.erased);
+        [one, two]
+    }
+
+    // The same, made for lines that mostly have no erasures, as in a decode: both words are then the line's own, and they are there before
+    // the filling word is read.
+    pub fn fill_if_erased(self, filling: Word) -> [Word; 2]
+        ensures { (n : ℕ) (cs : List ℕ) → Packs n cs self → (s : Side) → PacksWord n (filled s cs (value filling)) (value (side_word s result)) }
+    {
+        if is_zero(self.erased) {
+            let own = self.ones;
+            [own, own]
+        } else {
+            self.fill(filling)
+        }
+    }
+
+    // The erasures of a line. In a decode there are mostly none, and then there is nothing to count.
+    pub fn count_erasures(self) -> u32
+        ensures { (result ≤ width) × ((n : ℕ) (cs : List ℕ) → Packs n cs self → result ≡ erasures cs) }
+    {
+        if is_zero(self.erased) {
+            0
+        } else {
+            count_bits(self.erased)
+        }
+    }
+
+    // The differences of a line from a word, at the line's known cells: none where the word is the line's own, as it mostly is.
+    pub fn count_differences(self, word: Word) -> u32
+        ensures { (n : ℕ) (cs ws : List ℕ) → Packs n cs self → PacksWord n ws (value word) → result ≡ distance cs ws }
+    {
+        if word == self.ones {
+            0
+        } else {
+            let known = not_word(self.erased);
+            count_bits(and_words(xor_words(word, self.ones), known))
+        }
+    }
+
+    // The cells in which two lines differ.
+    pub fn differing(self, other: Line) -> Word
+        ensures { value result ≡ bit_or (bit_xor (value self.ones) (value other.ones)) (bit_xor (value self.erased) (value other.erased)) }
+    {
+        or_words(
+            xor_words(self.ones, other.ones),
+            xor_words(self.erased, other.erased),
+        )
+    }
+
+    // The cells that are unsure in the line and known in the other.
+    pub fn known_only_in(self, other: Line) -> Word
+        ensures { value result ≡ bit_xor (value self.erased) (bit_and (value self.erased) (value other.erased)) }
+    {
+        without(self.erased, other.erased)
+    }
+
+    // The cells of the line where they are known, and those of the other elsewhere.
+    pub fn known_else(self, other: Line) -> Line
+        ensures { (n : ℕ) (cs es : List ℕ) → Packs n cs self → Packs n es other → Packs n (known_else cs es) result }
+    {
+        Line {
+            ones: or_words(self.ones, and_words(self.erased, other.ones)),
+            erased: and_words(self.erased, other.erased),
+        }
+    }
+
+    // ---- from cells in bytes to a packed line, and back
+
+    // The lowest bit of a cell says that it is 1, the one above that it is unsure.
+    pub fn pack(cells: &[u8]) -> Line
+        requires { (length cells.now ≤ width) × (length cells.now % 8 ≡ 0) × ((i : ℕ) → cell cells.now i < 3) }
+        ensures { Packs (length cells.now) cells.now result }
+    {
+        let (ones, erased) = gather_pair(cells);
+        Line { ones, erased }
+    }
+
+    pub fn unpack(self, cells: &mut [u8])
+        requires { length cells.old % 8 ≡ 0 }
+        ensures { (length cells.new ≡ length cells.old) × ((cs : List ℕ) → Packs (length cells.old) cs self → cells.new ≡ cs) }
+    {
+        spread_pair(self.ones, self.erased, cells)
+    }
 }
 
 // Cell k of a full word.
-pub fn word_cell(word: Word, k: u32) -> u64
-    requires { k < width }
-    ensures { (result < 2) × ((n : ℕ) (ws : List ℕ) → PacksWord n ws (value word) → result ≡ cell ws k) }
+pub fn word_cell(word: Word, k: CellNumber) -> u64
+    ensures { (result < 2) × ((n : ℕ) (ws : List ℕ) → PacksWord n ws (value word) → result ≡ cell ws k.number) }
 {
-    bit_at(word, k)
+    bit_at(word, k.number)
 }
 
-// The line with cell k made c.
-pub fn put(l: Line, k: u32, c: u64) -> Line
-    requires { k < width }
-    ensures { (n : ℕ) (cs : List ℕ) → Packs n cs l → k < n → c < 3 → Packs n (set cs k c) result }
-{
-    Line {
-        ones: put_bit(l.ones, k, c % 2),
-        erased: put_bit(l.erased, k, c / 2 % 2),
-    }
-}
-
-// ---- fillings, erasures, distances
-
-// Word one and word two.
-pub fn fill(l: Line, filling: Word) -> [Word; 2]
-    ensures { (n : ℕ) (cs : List ℕ) → Packs n cs l → (s : Side) → PacksWord n (filled s cs (value filling)) (value (side_word s result)) }
-{
-    let one = or_words(l.ones, and_words(l.erased, filling));
-    let two = xor_words(one, l.erased);
-    [one, two]
-}
-
-// The same, made for lines that mostly have no erasures, as in a decode: both words are then the line's own, and they are there before
-// the filling word is read.
-pub fn fill_if_erased(l: Line, filling: Word) -> [Word; 2]
-    ensures { (n : ℕ) (cs : List ℕ) → Packs n cs l → (s : Side) → PacksWord n (filled s cs (value filling)) (value (side_word s result)) }
-{
-    if is_zero(l.erased) {
-        let own = l.ones;
-        [own, own]
-    } else {
-        fill(l, filling)
-    }
-}
-
+// Word one or word two.
 pub fn word_of(words: [Word; 2], s: Side) -> Word
     ensures { result ≡ side_word s words }
 {
@@ -165,71 +219,4 @@ pub fn word_of(words: [Word; 2], s: Side) -> Word
         Side::One => words[0],
         Side::Two => words[1],
     }
-}
-
-// The erasures of a line. In a decode there are mostly none, and then there is nothing to count.
-pub fn count_erasures(l: Line) -> u32
-    ensures { (result ≤ width) × ((n : ℕ) (cs : List ℕ) → Packs n cs l → result ≡ erasures cs) }
-{
-    if is_zero(l.erased) {
-        0
-    } else {
-        count_bits(l.erased)
-    }
-}
-
-// The differences of a line from a word, at the line's known cells: none where the word is the line's own, as it mostly is.
-pub fn count_differences(l: Line, word: Word) -> u32
-    ensures { (n : ℕ) (cs ws : List ℕ) → Packs n cs l → PacksWord n ws (value word) → result ≡ distance cs ws }
-{
-    if same_word(word, l.ones) {
-        0
-    } else {
-        let known = not_word(l.erased);
-        count_bits(and_words(xor_words(word, l.ones), known))
-    }
-}
-
-// The cells in which two lines differ.
-pub fn differing(a: Line, b: Line) -> Word
-    ensures { value result ≡ bit_or (bit_xor (value a.ones) (value b.ones)) (bit_xor (value a.erased) (value b.erased)) }
-{
-    or_words(xor_words(a.ones, b.ones), xor_words(a.erased, b.erased))
-}
-
-// The cells that are unsure in the first line and known in the second.
-pub fn known_only_in(a: Line, b: Line) -> Word
-    ensures { value result ≡ bit_xor (value a.erased) (bit_and (value a.erased) (value b.erased)) }
-{
-    without(a.erased, b.erased)
-}
-
-// The cells of the first line where they are known, and those of the second elsewhere.
-pub fn known_else(a: Line, b: Line) -> Line
-    ensures { (n : ℕ) (cs es : List ℕ) → Packs n cs a → Packs n es b → Packs n (known_else cs es) result }
-{
-    Line {
-        ones: or_words(a.ones, and_words(a.erased, b.ones)),
-        erased: and_words(a.erased, b.erased),
-    }
-}
-
-// ---- from cells in bytes to a packed line, and back
-
-// The lowest bit of a cell says that it is 1, the one above that it is unsure.
-pub fn pack(cells: &[u8]) -> Line
-    requires { (length cells.now ≤ width) × (length cells.now % 8 ≡ 0) × ((i : ℕ) → cell cells.now i < 3) }
-    ensures { Packs (length cells.now) cells.now result }
-{
-    let bits = gather_pair(cells);
-    let ones = bits.first;
-    let erased = bits.second;
-    Line { ones, erased }
-}
-
-pub fn unpack(l: Line, cells: &mut [u8])
-    requires { length cells.old % 8 ≡ 0 }
-    ensures { (length cells.new ≡ length cells.old) × ((cs : List ℕ) → Packs (length cells.old) cs l → cells.new ≡ cs) }
-{
-    spread_pair(l.ones, l.erased, cells)
 }

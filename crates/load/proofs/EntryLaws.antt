@@ -3,7 +3,7 @@
 use Rattle.std.proofs.Common.{◌≡◌, ℕ, ◌+◌, ◌*◌, ◌<◌, ◌≤◌, Bool, List, length, sym, ◌∙◌, arith}
 use Rattle.degree.specs.declared.Degree.{Degree}
 use Rattle.degree.specs.declared.Degree.TheVariants.{Four, Six, Seven}
-use Rattle.degree.specs.declared.Named.TheVariants.{Known}
+use Rattle.std.specs.Prelude.{Some}
 use Rattle.degree.specs.Degree.{size, named}
 use Rattle.line.specs.declared.refusals.Refusal.{Refusal}
 use Rattle.line.specs.Cells.{IsWord}
@@ -38,13 +38,13 @@ module _ (degree seed wrong unsure : ℕ) (message before : List ℕ) where
   abbrev Tests : List (ℕ × Bool)
   Tests = load_tests degree seed wrong unsure message before
 
-  pub load_ready : (d : Degree) → (refusal Tests ≡ 0) × (named degree ≡ Known d)
+  pub load_ready : (d : Degree) → (refusal Tests ≡ 0) × (named degree ≡ Some d)
       → IsWord (message_size d * message_size d) message × (length before ≡ size d * size d) × (wrong + unsure ≤ size d * size d)
   load_ready d h =
       let t = load_takes degree seed wrong unsure message before d h in
       (message_bits degree message before d (t.0, h.1), (coding_taken 1 degree message before message d (t.0, h.1)).1, t.1)
 
-  pub loaded_taken : {d : Degree} {after : List ℕ} → (refusal Tests ≡ 0) × (named degree ≡ Known d) → after ≡ loaded d seed wrong unsure message
+  pub loaded_taken : {d : Degree} {after : List ℕ} → (refusal Tests ≡ 0) × (named degree ≡ Some d) → after ≡ loaded d seed wrong unsure message
       → Loaded degree seed wrong unsure message before after 0
   unfolding loaded
   loaded_taken {d} {after} h e =

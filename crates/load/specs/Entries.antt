@@ -3,7 +3,7 @@ use Rattle.std.specs.Prelude.{◌≡◌, ℕ, ◌+◌, ◌-◌, ◌*◌, ◌^◌
 use Rattle.laws.specs.Bits.{bit}
 use Rattle.laws.specs.Sums.{sum_to}
 use Rattle.degree.specs.declared.Degree.{Degree}
-use Rattle.degree.specs.declared.Named.TheVariants.{Known}
+use Rattle.std.specs.Prelude.{Some}
 use Rattle.degree.specs.Degree.{size, named}
 use Rattle.line.specs.Cells.{cell, distance, erasures, designed_distance}
 use Rattle.line.specs.Refusals.{refusal, given}
@@ -57,4 +57,4 @@ pub record Loaded (degree seed wrong unsure : ℕ) (message before after : List 
   pub cells : after ≡ given degree (load_tests degree seed wrong unsure message before) (λ d. loaded d seed wrong unsure message) before
   pub places : (d : Degree) → EachOnce (size d * size d) (order (size d * size d) seed)
   -- of a call that is taken
-  pub hit : (d : Degree) → no ≡ 0 → named degree ≡ Known d → Hit d wrong unsure (order (size d * size d) seed) (encode_array d message) after
+  pub hit : (d : Degree) → no ≡ 0 → named degree ≡ Some d → Hit d wrong unsure (order (size d * size d) seed) (encode_array d message) after

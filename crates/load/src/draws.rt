@@ -2,8 +2,6 @@
 ghost use Rattle.std.specs.Prelude.{◌≡◌};
 ghost use Rattle.load.specs.Load.{stirred, grown, drawn};
 
-use std::num::wrapping_add_u64;
-
 #[derive(Clone, Copy)]
 pub struct State {
     pub s: u64,
@@ -31,7 +29,7 @@ pub fn next(state: State) -> State
     ensures { (result.s ≡ stirred state.s) × (result.w ≡ grown state.w) }
 {
     let s = stir(state.s);
-    let w = wrapping_add_u64(state.w, 0x9E3779B97F4A7C15);
+    let w = state.w.wrapping_add(0x9E3779B97F4A7C15);
     State { s, w }
 }
 
@@ -39,5 +37,5 @@ pub fn next(state: State) -> State
 pub fn drawn(state: State) -> u64
     ensures { result ≡ drawn (state.s, state.w) }
 {
-    wrapping_add_u64(state.s, state.w)
+    state.s.wrapping_add(state.w)
 }

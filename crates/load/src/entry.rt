@@ -3,6 +3,7 @@ ghost use Rattle.std.specs.Prelude.{◌≡◌, ◌+◌, ◌*◌, ◌≤◌, leng
 ghost use Rattle.degree.specs.Degree.{size};
 ghost use Rattle.line.specs.Cells.{IsWord};
 ghost use Rattle.line.specs.Encoding.{message_size};
+ghost use Rattle.line.specs.Refusals.{refusal_of};
 ghost use Rattle.load.specs.Load.{loaded};
 ghost use Rattle.load.specs.Entries.{Loaded};
 
@@ -11,7 +12,7 @@ use crate::refusals::load_test;
 use crate::shuffling::put_order;
 use array::encoding::encode_array;
 use degree::Degree;
-use line::refusals::{Call, number_of};
+use line::refusals::Refusal;
 
 // The places of the longest sheet, 128 by 128.
 const PLACES: usize = 16384;
@@ -44,8 +45,7 @@ fn load_taken(d: Degree, seed: u64, wrong: usize, unsure: usize, message: &[u8],
     load_with(d, seed, wrong, unsure, message, cells, &mut room);
 }
 
-// Entry: the sheet encoded from a message, with so many cells wrong and so many unsure by the seed, into the lent cells. Returns the
-// refusal number, 0 for none.
+// Entry: the sheet encoded from a message, with so many cells wrong and so many unsure by the seed, into the lent cells.
 pub fn load(
     degree: u64,
     seed: u64,
@@ -53,15 +53,10 @@ pub fn load(
     unsure: u64,
     message: &[u8],
     cells: &mut [u8],
-) -> u64
-    ensures { Loaded degree seed wrong unsure message.now cells.old cells.new result }
+) -> Result<(), Refusal>
+    ensures { Loaded degree seed wrong unsure message.now cells.old cells.new (refusal_of result) }
 {
-    let call = load_test(degree, seed, wrong, unsure, message, cells);
-    match call {
-        Call::Taken(d) => {
-            load_taken(d, seed, wrong as usize, unsure as usize, message, cells);
-            0
-        }
-        Call::Refused(why) => number_of(why),
-    }
+    let d = load_test(degree, seed, wrong, unsure, message, cells)?;
+    load_taken(d, seed, wrong as usize, unsure as usize, message, cells);
+    Ok(())
 }

@@ -6,30 +6,29 @@ ghost use Rattle.load.specs.Entries.{load_tests};
 
 use array::refusals::coding_test;
 use degree::{Degree, size_of};
-use line::refusals::{Call, Refusal};
-use std::num::wrapping_add_u64;
+use line::refusals::Refusal;
 
-// Are wrong and unsure cells together more than there are? A sum that wraps is below each of its parts.
+// Are wrong and unsure cells together more than there are? A sum that doesn't fit a number is.
 fn are_above(area: u64, wrong: u64, unsure: u64) -> bool
     ensures { result ≡ nat_lt area (wrong + unsure) }
 {
-    let sum = wrapping_add_u64(wrong, unsure);
-    (sum < wrong) | (area < sum)
+    match wrong.checked_add(unsure) {
+        Some(sum) => area < sum,
+        None => true,
+    }
 }
 
 // Tests 8 and 9.
-fn hits_test(d: Degree, seed: u64, wrong: u64, unsure: u64) -> Call
+fn hits_test(d: Degree, seed: u64, wrong: u64, unsure: u64) -> Result<Degree, Refusal>
     ensures { Tested (bits d) ((8, (seed == 0)) ∷ (9, nat_lt (size d * size d) (wrong + unsure)) ∷ []) result }
 {
     let n = size_of(d) as u64;
-    let no_seed = seed == 0;
-    let too_many = are_above(n * n, wrong, unsure);
-    if no_seed {
-        Call::Refused(Refusal::BadSeed)
-    } else if too_many {
-        Call::Refused(Refusal::TooMany)
+    if seed == 0 {
+        Err(Refusal::BadSeed)
+    } else if are_above(n * n, wrong, unsure) {
+        Err(Refusal::TooMany)
     } else {
-        Call::Taken(d)
+        Ok(d)
     }
 }
 
@@ -40,12 +39,9 @@ pub fn load_test(
     unsure: u64,
     message: &[u8],
     cells: &[u8],
-) -> Call
+) -> Result<Degree, Refusal>
     ensures { Tested degree (load_tests degree seed wrong unsure message.now cells.now) result }
 {
-    let call = coding_test(degree, message, cells, 1, message);
-    match call {
-        Call::Taken(d) => hits_test(d, seed, wrong, unsure),
-        Call::Refused(why) => Call::Refused(why),
-    }
+    let d = coding_test(degree, message, cells, 1, message)?;
+    hits_test(d, seed, wrong, unsure)
 }

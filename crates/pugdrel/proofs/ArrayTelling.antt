@@ -10,13 +10,13 @@ use borrow.Author.Tests.{eqb-true}
 use lib.Dec.{eqb, leb}
 use lib.ListN.{length}
 use Rattle.degree.specs.declared.Degree.{Degree}
-use Rattle.degree.specs.declared.Named.{Named}
-use Rattle.degree.specs.declared.Named.TheVariants.{Known, Unknown}
+use Rattle.std.specs.Prelude.{Option, None, Some, Result}
+use Rattle.line.specs.declared.refusals.Refusal.{Refusal}
+use Rattle.array.specs.declared.report.Report.{Report}
 use Rattle.degree.specs.Degree.{size, named}
 use Rattle.line.specs.Cells.{erasures}
 use Rattle.line.specs.Refusals.{refusal, at_degree, given, misfit}
 use Rattle.line.proofs.Refusing.{some_none, none_applies}
-use Rattle.array.specs.declared.entry.DecodeAnswer.{DecodeAnswer}
 use Rattle.array.specs.Arrays.{line}
 use Rattle.array.specs.Plain.{fillings, plain, plain_count, closed}
 use Rattle.array.specs.Refusals.{row_tests, decode_tests}
@@ -46,7 +46,7 @@ module _ (degree l : ℕ) (r w s : List ℕ) where
         true≢false (some_none (misfit (length r) (k * k) ∷ misfit (length w) (4 * l * k) ∷ misfit (length s) (k * k) ∷ true ∷ []) n.1.1.0).1.1.1.0;
   }
 
-  pub decode_told : {part after old new : List ℕ} {a : DecodeAnswer} {number : ℕ} → part ≡ cond (fits 3 old) r [] → DecodeDone degree l part w s [] after a
+  pub decode_told : {part after old new : List ℕ} {a : Result Report Refusal} {number : ℕ} → part ≡ cond (fits 3 old) r [] → DecodeDone degree l part w s [] after a
       → number ≡ (decode_numbers a).0 → new ≡ told (report_numbers a) old → DecodeTold degree l r w s after old new number
   decode_told {after} {old} {a} e done n t =
       let fit = fits 3 old in
@@ -100,16 +100,16 @@ module _ (degree : ℕ) (part : List ℕ) (index : ℕ) where
       none : Placed [] 0 0
       none = (mul-zero index, refl, omega (arith, mul-zero index))
 
-      found : (d : Degree) → (refusal Asked ≡ 0) × (named degree ≡ Known d) → Placed (line (size d) part index) (index * size d) (size d)
+      found : (d : Degree) → (refusal Asked ≡ 0) × (named degree ≡ Some d) → Placed (line (size d) part index) (index * size d) (size d)
       found d e =
           let h = row_taken degree part index d e in
           let l = length_line (size d) (size d) part index h.1 h.0 in
           (rw l, l, rw l (omega (arith, row_room d index refl h.1)))
 
-      go : (b : Bool) → eqb (refusal Asked) 0 ≡ b → (v : Named) → named degree ≡ v
+      go : (b : Bool) → eqb (refusal Asked) 0 ≡ b → (v : Option Degree) → named degree ≡ v
           → Placed (cond b (at_degree v (λ d. line (size d) part index) []) []) (cond b (at_degree v (λ d. index * size d) 0) 0) (cond b (at_degree v size 0) 0)
-      go true e (Known d) f = found d (eqb-true (refusal Asked) 0 e, f)
-      go true e Unknown f = none
+      go true e (Some d) f = found d (eqb-true (refusal Asked) 0 e, f)
+      go true e None f = none
       go false e v f = none
 
   pub row_start : {found : List ℕ} → found ≡ row_part degree part index → index * length found ≤ 16384

@@ -8,7 +8,8 @@ use mathlib.Core.List.{List, [], ◌∷◌, ◌++◌, map}
 use Prim.Native.Nat.{ℕ}
 use native.Mathlib.Omega.{arith}
 use lib.ListN.{length, replicate, set}
-use Rattle.line.specs.declared.entry.MessagesAnswer.{MessagesAnswer}
+use Rattle.std.specs.Prelude.{Result}
+use Rattle.line.specs.declared.refusals.Refusal.{Refusal}
 use Rattle.line.specs.Refusals.{refusal, given, misfit, at_most, line_tests, messages_tests}
 use Rattle.line.specs.Entries.{MessagesDone}
 use Rattle.line.proofs.Examples.{line, zeros}
@@ -138,7 +139,7 @@ words after = (
 -- ---- one line: found
 
 pub lines : (after : List ℕ)
-    -- P3 of document 01; P4; a cell 3
+    -- three ones, which fail; five unsure cells, which are found; a cell 3
     → Tells (DecodeLineTold 4 0 (line (0 ∷ 4 ∷ 6 ∷ []) []) after (nines 1)) 0 (0 ∷ [])
     × Tells (DecodeLineTold 4 0 (line [] (0 ∷ 4 ∷ 6 ∷ 7 ∷ 8 ∷ [])) after (nines 1)) 0 (1 ∷ [])
     × Tells (DecodeLineTold 4 0 (set zeros 9 3) after (nines 1)) 4 (0 ∷ [])
@@ -152,7 +153,7 @@ lines after = (
 -- ---- the messages of a line: the count
 
 -- a report that fits is a length the more, and changes no test
-no_more : {degree filling : ℕ} {y r s after : List ℕ} {a : MessagesAnswer} → MessagesDone degree y r filling s (false ∷ []) after a → MessagesDone degree y r filling s [] after a
+no_more : {degree filling : ℕ} {y r s after : List ℕ} {a : Result ℕ Refusal} → MessagesDone degree y r filling s (false ∷ []) after a → MessagesDone degree y r filling s [] after a
 unfolding messages_tests
 no_more done = record { refusal = done.refusal; count = done.count; most = done.most; cells = done.cells }
 

@@ -9,7 +9,8 @@ use lib.Dec.{eqb}
 use lib.ListN.{length, take, drop, drop_of_length-le}
 use Rattle.line.specs.Refusals.{refusal, misfit}
 use Rattle.line.proofs.Refusing.{some_none, none_applies, unless_refused_lem}
-use Rattle.blocks.specs.declared.entry.ReadAnswer.{ReadAnswer}
+use Rattle.std.specs.Prelude.{Result}
+use Rattle.line.specs.declared.refusals.Refusal.{Refusal}
 use Rattle.blocks.specs.Blocks.{sheet_number, sheet_in}
 use Rattle.blocks.specs.Entries.{read_tests, ReadDone}
 use Rattle.pugdrel.proofs.Handing.{Alike, lent_part}
@@ -25,7 +26,7 @@ module _ (f s : List ℕ) where
         true≢false (some_none (misfit (length s) 4096 ∷ true ∷ []) n.0).1.0;
   }
 
-  fitting : {q : List ℕ} {a : ReadAnswer} → ReadDone f s [] q a → ReadDone f s (false ∷ []) q a
+  fitting : {q : List ℕ} {a : Result ℕ Refusal} → ReadDone f s [] q a → ReadDone f s (false ∷ []) q a
   fitting done = record {
     refusal = done.refusal ∙ read_alike.right;
     number = done.number ∙ ap (λ (n : ℕ). cond (eqb n 0) (sheet_number f) 0) read_alike.right;
@@ -34,7 +35,7 @@ module _ (f s : List ℕ) where
   }
 
   -- an empty slice is refused, and so is a report that does not fit
-  unfitting : {q : List ℕ} {a : ReadAnswer} → ReadDone f [] [] q a → ReadDone f s (true ∷ []) (q ++ s) a
+  unfitting : {q : List ℕ} {a : Result ℕ Refusal} → ReadDone f [] [] q a → ReadDone f s (true ∷ []) (q ++ s) a
   unfitting {q} {a} done =
       let none : refusal (read_tests f [] []) ≡ 0 → ⊥ = λ z. read_alike.refused (sym read_alike.wrong ∙ z) in
       let stayed : q ≡ [] = done.cells ∙ unless_refused_lem (read_tests f [] []) (sheet_in f) [] none in
@@ -46,7 +47,7 @@ module _ (f s : List ℕ) where
       }
 
   -- an answer for the part that is handed on is one for all cells
-  pub read_handed : (fit : Bool) (x : ℕ) {q : List ℕ} {a : ReadAnswer} → x ≡ cond fit (length s) 0 → ReadDone f (take x s) [] q a
+  pub read_handed : (fit : Bool) (x : ℕ) {q : List ℕ} {a : Result ℕ Refusal} → x ≡ cond fit (length s) 0 → ReadDone f (take x s) [] q a
       → ReadDone f s (not fit ∷ []) (q ++ drop x s) a
   read_handed true x {q} e done =
       let whole = rw (lent_part true s e) at done in

@@ -1,3 +1,4 @@
+mod Answers
 mod Reporting
 mod Handing
 mod ArrayTelling

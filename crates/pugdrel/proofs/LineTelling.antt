@@ -7,8 +7,8 @@ use Prim.Native.Nat.{ℕ, ◌^◌}
 use native.Mathlib.Omega.{arith}
 use lib.ListN.{length, take, drop, drop_of_length-le}
 use Rattle.degree.specs.declared.Degree.{Degree}
-use Rattle.line.specs.declared.entry.WordAnswer.{WordAnswer}
-use Rattle.line.specs.declared.entry.MessagesAnswer.{MessagesAnswer}
+use Rattle.std.specs.Prelude.{Option, Result}
+use Rattle.line.specs.declared.refusals.Refusal.{Refusal}
 use Rattle.line.specs.Bounded.{Answer, Failed, or_back, bounded, changed}
 use Rattle.line.specs.Decoding.{messages}
 use Rattle.line.specs.Clauses.{count}
@@ -67,7 +67,7 @@ module _ (bound degree : ℕ) (s : List ℕ) where
         let none' : Given s (true ∷ []) ≡ Failed = given_none (line_tests bound degree s (true ∷ [])) degree (asked s) Failed line_alike.refused in
         h ∙ rw (none, none')
 
-    pub word_handed : (fit : Bool) (x : ℕ) {q : List ℕ} {a : WordAnswer} → x ≡ cond fit (length s) 0
+    pub word_handed : (fit : Bool) (x : ℕ) {q : List ℕ} {a : Result (Option ℕ) Refusal} → x ≡ cond fit (length s) 0
         → WordAnswered (refusal (line_tests bound degree (take x s) [])) (Given (take x s) []) (take x s) q a
         → WordAnswered (refusal (line_tests bound degree s (not fit ∷ []))) (Given s (not fit ∷ [])) s (q ++ drop x s) a
     word_handed fit x e done = record {
@@ -92,7 +92,7 @@ module _ (degree : ℕ) (incoming channel : List ℕ) (filling : ℕ) (s : List 
         true≢false (some_none (misfit (length incoming) k ∷ misfit (length channel) k ∷ misfit (length s) k ∷ true ∷ []) n.1.0).1.1.1.0;
   }
 
-  pub messages_told : {part after old new : List ℕ} {a : MessagesAnswer} {number : ℕ} → part ≡ cond (fits 1 old) incoming []
+  pub messages_told : {part after old new : List ℕ} {a : Result ℕ Refusal} {number : ℕ} → part ≡ cond (fits 1 old) incoming []
       → MessagesDone degree part channel filling s [] after a → number ≡ (messages_numbers a).0 → new ≡ told ((messages_numbers a).1 ∷ []) old
       → MessagesTold degree incoming channel filling s after old new number
   messages_told {old} {a} e done n t =

@@ -1,10 +1,11 @@
 -- The calls of an array: their promises are those of the entries below with the report among the lengths, for taken and refused calls
 -- alike. Encode and extract have no report, and promise what the entries below do.
-use Rattle.std.specs.Prelude.{◌≡◌, Bool, List, [], ◌∷◌, ℕ, ◌*◌, length}
+use Rattle.std.specs.Prelude.{◌≡◌, Bool, List, [], ◌∷◌, ℕ, ◌*◌, length, Result}
 use Rattle.laws.specs.Bits.{bit}
 use Rattle.degree.specs.Degree.{size}
 use Rattle.line.specs.Refusals.{refusal, given, misfit}
-use Rattle.array.specs.declared.entry.DecodeAnswer.{DecodeAnswer}
+use Rattle.line.specs.declared.refusals.Refusal.{Refusal}
+use Rattle.array.specs.declared.report.Report.{Report}
 use Rattle.array.specs.Refusals.{row_tests}
 use Rattle.array.specs.Entries.{decode_numbers, DecodeDone}
 use Rattle.pugdrel.specs.Reports.{told, Told}
@@ -14,7 +15,7 @@ use Rattle.pugdrel.specs.Reports.{told, Told}
 -- a report of 3 numbers: the count, the unsure cells and closed
 abbrev pub DecodeTold : (degree l : ℕ) (r w before after old new : List ℕ) (number : ℕ) → Type 0
 DecodeTold degree l r w before after =
-    Told DecodeAnswer 3 (λ a. (decode_numbers a).0) (λ a. (decode_numbers a).1 ∷ (decode_numbers a).2 ∷ bit (decode_numbers a).3 ∷ []) (λ more. DecodeDone degree l r w before more after)
+    Told (Result Report Refusal) 3 (λ a. (decode_numbers a).0) (λ a. (decode_numbers a).1 ∷ (decode_numbers a).2 ∷ bit (decode_numbers a).3 ∷ []) (λ more. DecodeDone degree l r w before more after)
 
 -- ---- the look-up of a row
 

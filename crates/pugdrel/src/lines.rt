@@ -1,96 +1,22 @@
 // The calls of one word or line.
-ghost use Rattle.std.specs.Prelude.{◌≡◌, [], ◌∷◌};
-ghost use Rattle.laws.specs.Bits.{bit};
+ghost use Rattle.std.specs.Prelude.{◌≡◌};
 ghost use Rattle.line.specs.Cells.{filling_word};
-ghost use Rattle.line.specs.Entries.{word_numbers, line_numbers, messages_numbers};
-ghost use Rattle.pugdrel.specs.Reports.{told};
 ghost use Rattle.pugdrel.specs.LineCalls.{BoundedTold, DecodeLineTold, MessagesTold};
+ghost use Rattle.pugdrel.specs.Working.Numbers.{found_numbers};
 
-use crate::reports::{bit_of, lent, tell};
-use line::entry::{
-    LineAnswer, MessagesAnswer, WordAnswer, bounded_distance, decode_line, line_messages,
-};
-use line::refusals::number_of;
+use crate::reports::{lent, tell};
+use line::entry::{bounded_distance, decode_line, line_messages};
+use line::refusals::{Refusal, refusal_of};
 
-// ---- an answer in document 01's numbers
-
-fn word_refusal(answer: WordAnswer) -> u64
-    ensures { result ≡ (word_numbers answer).0 }
+// Found, and the number of cells changed.
+fn found_numbers(answer: &Result<Option<u64>, Refusal>) -> [u64; 2]
+    ensures { result ≡ found_numbers answer.now }
 {
     match answer {
-        WordAnswer::Refused(why) => number_of(why),
-        WordAnswer::Failed => 0,
-        WordAnswer::Found(_) => 0,
+        Ok(Some(changed)) => [1, *changed],
+        Ok(None) => [0, 0], // the word is as it came
+        Err(_) => [0, 0],
     }
-}
-
-fn word_found(answer: WordAnswer) -> bool
-    ensures { result ≡ (word_numbers answer).1 }
-{
-    match answer {
-        WordAnswer::Refused(_) => false,
-        WordAnswer::Failed => false,
-        WordAnswer::Found(_) => true,
-    }
-}
-
-fn word_changed(answer: WordAnswer) -> u64
-    ensures { result ≡ (word_numbers answer).2 }
-{
-    match answer {
-        WordAnswer::Refused(_) => 0,
-        WordAnswer::Failed => 0, // the word is as it came
-        WordAnswer::Found(changed) => changed,
-    }
-}
-
-fn line_refusal(answer: LineAnswer) -> u64
-    ensures { result ≡ (line_numbers answer).0 }
-{
-    match answer {
-        LineAnswer::Refused(why) => number_of(why),
-        LineAnswer::Failed => 0,
-        LineAnswer::Found => 0,
-    }
-}
-
-fn is_found(answer: LineAnswer) -> bool
-    ensures { result ≡ (line_numbers answer).1 }
-{
-    match answer {
-        LineAnswer::Refused(_) => false,
-        LineAnswer::Failed => false,
-        LineAnswer::Found => true,
-    }
-}
-
-fn messages_refusal(answer: MessagesAnswer) -> u64
-    ensures { result ≡ (messages_numbers answer).0 }
-{
-    match answer {
-        MessagesAnswer::Refused(why) => number_of(why),
-        MessagesAnswer::Written(_) => 0,
-    }
-}
-
-fn messages_count(answer: MessagesAnswer) -> u64
-    ensures { result ≡ (messages_numbers answer).1 }
-{
-    match answer {
-        MessagesAnswer::Refused(_) => 0,
-        MessagesAnswer::Written(count) => count,
-    }
-}
-
-// ---- the calls
-
-// Reports found, and returns the refusal number.
-fn tell_found(answer: LineAnswer, report: &mut [u64]) -> u64
-    ensures { (result ≡ (line_numbers answer).0) × (report.new ≡ told (bit (line_numbers answer).1 ∷ []) report.old) }
-{
-    let numbers = [bit_of(is_found(answer))];
-    tell(&numbers, report);
-    line_refusal(answer)
 }
 
 // Bounded-distance decoding of a full word, in place. Reports found, and the number of cells changed.
@@ -99,9 +25,9 @@ pub fn pugdrel_bounded_distance(degree: u64, word: &mut [u8], report: &mut [u64]
 {
     let end = lent(report.len() == 2, word.len());
     let answer = bounded_distance(degree, &mut word[..end]);
-    let numbers = [bit_of(word_found(answer)), word_changed(answer)];
+    let numbers = found_numbers(&answer);
     tell(&numbers, report);
-    word_refusal(answer)
+    refusal_of(&answer)
 }
 
 // Line decoding, in place. Reports found.
@@ -116,7 +42,9 @@ pub fn pugdrel_decode_line(
 {
     let end = lent(report.len() == 1, cells.len());
     let answer = decode_line(degree, &mut cells[..end], filling_low, filling_high);
-    tell_found(answer, report)
+    let numbers = [u64::from(answer.unwrap_or(false))];
+    tell(&numbers, report);
+    refusal_of(&answer)
 }
 
 // The outgoing messages of a line, written to `messages`. Reports the count.
@@ -140,7 +68,7 @@ pub fn pugdrel_messages(
         filling_high,
         messages,
     );
-    let numbers = [messages_count(answer)];
+    let numbers = [answer.unwrap_or(0)];
     tell(&numbers, report);
-    messages_refusal(answer)
+    refusal_of(&answer)
 }

@@ -1,6 +1,7 @@
 // The call of a repeatable load.
 ghost use Rattle.load.specs.Entries.{Loaded};
 
+use line::refusals::refusal_of;
 use load::entry::load;
 
 // The sheet encoded from a message, with so many cells wrong and so many unsure, at places that the seed decides.
@@ -14,5 +15,6 @@ pub fn pugdrel_load(
 ) -> u64
     ensures { Loaded degree seed wrong unsure message.now cells.old cells.new result }
 {
-    load(degree, seed, wrong, unsure, message, cells)
+    let answer = load(degree, seed, wrong, unsure, message, cells);
+    refusal_of(&answer)
 }

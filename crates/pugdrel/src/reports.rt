@@ -1,16 +1,13 @@
 // The report: a lent slice that a call writes its numbers to.
 ghost use Rattle.std.specs.Prelude.{◌≡◌, cond};
-ghost use Rattle.laws.specs.Bits.{bit};
 ghost use Rattle.pugdrel.specs.Reports.{told};
-
-use words::copying::copy_words;
 
 // Writes the numbers to a report of their length. A report of another length stays as it is.
 pub fn tell(numbers: &[u64], report: &mut [u64])
     ensures { report.new ≡ told numbers.now report.old }
 {
     if report.len() == numbers.len() {
-        copy_words(numbers, report);
+        report.copy_from_slice(numbers);
     }
 }
 
@@ -20,11 +17,4 @@ pub fn lent(fit: bool, long: usize) -> usize
     ensures { result ≡ cond fit long 0 }
 {
     if fit { long } else { 0 }
-}
-
-// Yes is told as 1, no as 0.
-pub fn bit_of(b: bool) -> u64
-    ensures { result ≡ bit b }
-{
-    if b { 1 } else { 0 }
 }

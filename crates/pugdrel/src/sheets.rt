@@ -2,6 +2,7 @@
 ghost use Rattle.pugdrel.specs.SheetCall.{SheetTold};
 
 use crate::reports::tell;
+use line::refusals::Refusal;
 use text::sheet::text_into;
 
 // Writes what the program `sheet` prints for the input to the front of `output`. Reports how many bytes that are. The text itself
@@ -17,6 +18,6 @@ pub fn pugdrel_sheet(input: &[u8], output: &mut [u8], report: &mut [u64]) -> u64
     } else {
         let numbers = [0];
         tell(&numbers, report);
-        3
+        u64::from(Refusal::BadLength)
     }
 }

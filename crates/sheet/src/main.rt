@@ -10,28 +10,14 @@ ghost use Rattle.text.specs.Text.{printed};
 use std::io;
 use std::io::{Read, Write};
 
-// How many bytes were read, and the error, where a read failed.
+// How many bytes were read, and the error, where a read failed: what was read before it is printed all the same.
 #[derive(Drop)]
 struct Reading {
     got: usize,
     end: io::Result<()>,
 }
 
-// One read, to the start of a buffer.
-fn read_once<R: Read>(input: &mut R, buffer: &mut [u8]) -> Reading
-    ensures within { (result.got ≤ length buffer.new) × (length buffer.new ≡ length buffer.old) }
-    ensures bytes { Consumes (R.remaining input.old) (R.remaining input.new) (take result.got buffer.new) }
-    ensures end { OnOk result.end (result.got ≡ 0 → 0 < length buffer.new → IsAtEnd (R.remaining input.new)) }
-{
-    match input.read(buffer) {
-        Ok(got) => Reading { got, end: Ok(()) },
-        Err(error) => Reading {
-            got: 0,
-            end: Err(error),
-        },
-    }
-}
-
+// A read gives as many bytes as it likes, so those that came are counted here.
 // Reads until the buffer is full, the input ends or a read fails.
 fn read_input<R: Read>(input: &mut R, buffer: &mut [u8]) -> Reading
     ensures within { (result.got ≤ length buffer.new) × (length buffer.new ≡ length buffer.old) }
@@ -39,15 +25,19 @@ fn read_input<R: Read>(input: &mut R, buffer: &mut [u8]) -> Reading
     ensures whole { OnOk result.end (result.got < length buffer.new → IsAtEnd (R.remaining input.new)) }
 {
     let mut got = 0;
-    let mut more = true;
-    let mut end = Ok(());
-    while more & (got < buffer.len()) {
-        let last = read_once(input, &mut buffer[got..]);
-        got += last.got;
-        more = last.got > 0;
-        end = last.end;
+    while got < buffer.len() {
+        match input.read(&mut buffer[got..]) {
+            Ok(0) => return Reading { got, end: Ok(()) },
+            Ok(more) => got += more,
+            Err(error) => {
+                return Reading {
+                    got,
+                    end: Err(error),
+                };
+            }
+        }
     }
-    Reading { got, end }
+    Reading { got, end: Ok(()) }
 }
 
 // Says on standard error that something went wrong, where it did. Where that cannot be written either, nothing can be said.
@@ -57,26 +47,16 @@ fn complain(rt: &impl Eprint, wrong: bool, text: &str) {
     }
 }
 
-fn print<W: Write>(
-    out: &mut W,
-    rt: &impl Eprint,
-    output: &[u8; 16596],
-    long: usize,
-) -> io::Result<()>
-    ensures { long ≤ 16596 → OnOk result (Appends (W.contents out.old) (W.contents out.new) (take long output.now)) }
+fn print<W: Write>(out: &mut W, rt: &impl Eprint, text: &[u8]) -> io::Result<()>
+    ensures { OnOk result (Appends (W.contents out.old) (W.contents out.new) text.now) }
 {
-    let all = &output[..];
-    if long <= all.len() {
-        let written = out.write_all(&all[0..long]);
-        complain(
-            rt,
-            written.is_err(),
-            "sheet: standard output could not be written\n",
-        );
-        written
-    } else {
-        Ok(())
-    }
+    let written = out.write_all(text);
+    complain(
+        rt,
+        written.is_err(),
+        "sheet: standard output could not be written\n",
+    );
+    written
 }
 
 fn run<W: Write>(out: &mut W, rt: &impl Eprint, input: &[u8]) -> io::Result<()>
@@ -84,23 +64,7 @@ fn run<W: Write>(out: &mut W, rt: &impl Eprint, input: &[u8]) -> io::Result<()>
 {
     let mut output = [0u8; 16596];
     let long = text::sheet::sheet_text(input, &mut output);
-    print(out, rt, &output, long)
-}
-
-fn run_on<W: Write>(
-    out: &mut W,
-    rt: &impl Eprint,
-    buffer: &[u8; 65536],
-    got: usize,
-) -> io::Result<()>
-    ensures { got ≤ 65536 → OnOk result (Appends (W.contents out.old) (W.contents out.new) (printed (take got buffer.now))) }
-{
-    let all = &buffer[..];
-    if got <= all.len() {
-        run(out, rt, &all[0..got])
-    } else {
-        Ok(())
-    }
+    print(out, rt, &output[..long])
 }
 
 // What the program does, with any input and any output: it writes what is printed for the bytes that the input has, of which the buffer
@@ -115,7 +79,7 @@ fn read_and_print<R: Read, W: Write>(input: &mut R, out: &mut W, rt: &impl Eprin
         reading.end.is_err(),
         "sheet: standard input could not be read\n",
     );
-    run_on(out, rt, &buffer, reading.got)?;
+    run(out, rt, &buffer[..reading.got])?;
     reading.end
 }
 

@@ -1,3 +1,4 @@
+mod Passed
 mod WritingLaws
 mod Decimals
 mod SheetLaws

@@ -1,5 +1,5 @@
--- Examples of what is printed: the four numbers in their order and the lines after them, which the checker computes, the whole example of
--- document 01, by the array theorem and the laws of the text, and a whole sheet that zero filling decides.
+-- Examples of what is printed: the four numbers in their order and the lines after them, which the checker computes, a whole
+-- sheet that decodes, by the array theorem and the laws of the text, and a whole sheet that zero filling decides.
 -- Assumes nothing.
 use mathlib.Core.Path.{◌≡◌, refl, sym, ap, ◌∙◌}
 use mathlib.Core.Bool.{true}
@@ -13,7 +13,7 @@ use Rattle.laws.specs.Digits.{sum_over, ones_in}
 use Rattle.laws.specs.Sums.{sum_to}
 use Rattle.laws.proofs.Tests.{every_each}
 use Rattle.degree.specs.declared.Degree.TheVariants.{Four}
-use Rattle.degree.specs.declared.Named.TheVariants.{Known}
+use Rattle.std.specs.Prelude.{Some}
 use Rattle.degree.specs.Degree.{named}
 use Rattle.line.specs.Cells.{erasures, distance, filled}
 use Rattle.line.specs.Codeword.{is_codeword}
@@ -53,14 +53,14 @@ abbrev pub output : List ℕ
 output = 48 ∷ 32 ∷ 54 ∷ 52 ∷ 32 ∷ 48 ∷ 32 ∷ 49 ∷ 10 ∷ zero_lines 16
 
 -- a text whose lines are those of the array r, which decoding with filling words of 0 leaves as zeros
-printed_zeros : (input r : List ℕ) → (refusal (sheet_tests input) ≡ 0) × (named (first_line input) ≡ Known Four)
+printed_zeros : (input r : List ℕ) → (refusal (sheet_tests input) ≡ 0) × (named (first_line input) ≡ Some Four)
     → IsArray Four r → drop 2 input ≡ array_text 16 r → plain Four 1 r r zero_words ≡ zero_sheet → plain_count Four 1 r r zero_words ≡ 64 → printed input ≡ output
 unfolding decoded_text report_text numbers_text number_text decimal decimal_digits array_text line_text lines
 printed_zeros input r taken array lines_read left counted =
     sym (printed_taken input Four taken) ∙ ap (decoded_text Four) (ap (cells_of 16) lines_read ∙ read_back 16 array)
     ∙ rw (left, counted, sent_known Four zero_sheet zero_sent, sent_closed Four zero_sheet zero_sent) refl
 
--- ---- document 01: "Input 4, then 1000100000000000, then fifteen lines 0000000000000000: it prints 0 64 0 1, then sixteen lines
+-- ---- "Input 4, then 1000100000000000, then fifteen lines 0000000000000000: it prints 0 64 0 1, then sixteen lines
 -- 0000000000000000."
 
 abbrev pub input : List ℕ
@@ -102,19 +102,19 @@ unfolding plain_count
 all_counted =
     rw (first_half Four zero_sheet zero_sent received received_array zero_words near, rows_counted, columns_counted) refl
 
-taken : (refusal (sheet_tests input) ≡ 0) × (named (first_line input) ≡ Known Four)
+taken : (refusal (sheet_tests input) ≡ 0) × (named (first_line input) ≡ Some Four)
 unfolding sheet_tests shaped known lines
 taken = (refl, refl)
 
 pub whole_example : printed input ≡ output
 whole_example = printed_zeros input received taken received_array lines_read decoded all_counted
 
--- ---- "with zero filling": sixteen lines 100010??00000000, document 01's P7, which filling bits of 0 lead to zeros and those of 1 to word_g
+-- ---- "with zero filling": sixteen lines 100010??00000000, a tie, which filling bits of 0 lead to zeros and those of 1 to word_g
 
 abbrev pub tied_input : List ℕ
 tied_input = 52 ∷ 10 ∷ lines (λ i. 49 ∷ 48 ∷ 48 ∷ 48 ∷ 49 ∷ 48 ∷ 63 ∷ 63 ∷ (replicate 8 48 ++ (10 ∷ []))) 16
 
-tied_taken : (refusal (sheet_tests tied_input) ≡ 0) × (named (first_line tied_input) ≡ Known Four)
+tied_taken : (refusal (sheet_tests tied_input) ≡ 0) × (named (first_line tied_input) ≡ Some Four)
 unfolding sheet_tests shaped known lines
 tied_taken = (refl, refl)
 

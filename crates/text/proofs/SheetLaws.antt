@@ -8,28 +8,22 @@ use Prim.Native.Nat.{ℕ, zero, suc, ◌+◌, ◌-◌, ◌*◌, ◌^◌, ◌<◌
 use native.Mathlib.Nat.{mul-le-mul}
 use native.Mathlib.Decide.{dec_lt}
 use native.Mathlib.Omega.{arith}
-use borrow.Author.Tests.{eq-eqb, le-leb, eqb-true, not-false}
+use borrow.Author.Tests.{eqb-true, not-false}
 use lib.Dec.{eqb}
-use lib.ListN.{length, take, drop, replicate, length-drop, length-replicate, get_or-eq_default, get_or-map}
+use lib.ListN.{length, take, drop, replicate, length-drop, get_or-eq_default, get_or-map}
 use lib.Seq.{take_all}
 use Rattle.laws.specs.Tests.{every}
 use Rattle.degree.specs.declared.Degree.{Degree}
-use Rattle.degree.specs.declared.Named.TheVariants.{Known, Unknown}
+use Rattle.std.specs.Prelude.{None, Some, Result}
 use Rattle.degree.specs.Degree.{bits, size, named}
-use Rattle.line.specs.Cells.{cell, Cells, erasures}
+use Rattle.line.specs.Cells.{Cells}
 use Rattle.line.specs.declared.refusals.Refusal.{Refusal}
-use Rattle.line.specs.declared.refusals.Call.{Call}
 use Rattle.array.specs.declared.report.Report.{Report}
-use Rattle.array.specs.declared.entry.DecodeAnswer.{DecodeAnswer}
-use Rattle.array.specs.declared.entry.DecodeAnswer.TheVariants as answer
-use Rattle.array.specs.Refusals.{decode_tests}
-use Rattle.array.specs.Entries.{DecodeDone, decode_numbers}
-use Rattle.line.specs.Refusals.{number, refusal, at_most}
+use Rattle.line.specs.Refusals.{number, refusal}
 use Rattle.line.specs.Working.Calls.{Tested}
-use Rattle.line.proofs.Refusing.{some_number, known_unknown, bits_named, known_size, none_applies, given_taken, given_refused, tested_known}
+use Rattle.line.proofs.Refusing.{known_unknown, known_size, none_applies, given_taken, given_refused, tested_known}
 use Rattle.laws.proofs.Tests.{and_true}
-use Rattle.array.specs.Plain.{fillings, plain, plain_count, closed}
-use Rattle.array.specs.Working.Steps.{IsArray}
+use Rattle.array.specs.Plain.{fillings}
 use Rattle.array.specs.Working.Runs.{DecodingDone}
 use Rattle.line.proofs.Bounds.{size_le}
 use Rattle.array.proofs.Fillings.{fillings_zeros}
@@ -67,7 +61,7 @@ cells_array n t e = record {
     long : length (cells_of n t) ≡ n * n
     long = length_lines n row n even
 
--- ---- the call of decode is taken
+-- ---- the filling
 
 -- the numbers that are lent are 0
 take_zeros : (k n : ℕ) → k ≤ n → take {A = ℕ} k (replicate n 0) ≡ replicate k 0
@@ -79,42 +73,8 @@ pub numbers_are : (d : Degree) {x : ℕ} → x ≡ size d → take {A = ℕ} (4 
 numbers_are d e = rw e (take_zeros (4 * size d) 512 (omega (arith, size_le d refl)))
 
 -- and so are the filling words
-zero_fillings : (d : Degree) → fillings (replicate (4 * size d) 0) ≡ zeros d
+pub zero_fillings : (d : Degree) → fillings (replicate (4 * size d) 0) ≡ zeros d
 zero_fillings d = let e : 4 * size d ≡ 2 * (2 * size d) = omega arith in rw e (fillings_zeros (2 * size d))
-
-small_at_most : (r : List ℕ) → ((i : ℕ) → cell r i < 3) → at_most 2 r ≡ true
-unfolding at_most
-small_at_most [] h = refl
-small_at_most (c ∷ cs) h = rw (le-leb c 2 (omega (arith, h 0))) (small_at_most cs (λ i. h (suc i)))
-
-module _ (d : Degree) (degree : ℕ) (r w before : List ℕ) (e : degree ≡ bits d) (a : IsArray d r) (l : length before ≡ size d * size d) (z : w ≡ replicate (4 * size d) 0) where
-  abbrev Tests : List (ℕ × Bool)
-  Tests = decode_tests degree 1 r w before []
-
-  taken_call : (refusal Tests ≡ 0) × (named degree ≡ Known d)
-  unfolding decode_tests
-  taken_call =
-      let long : length w ≡ 4 * 1 * size d = ap length z ∙ length-replicate (4 * size d) 0 ∙ omega arith in (
-        rw (e, bits_named d, eq-eqb (length r) (size d * size d) a.long, eq-eqb (length before) (size d * size d) l, eq-eqb (length w) (4 * 1 * size d) long, small_at_most r a.small),
-        ap named e ∙ bits_named d,
-      )
-
-  none : fillings w ≡ zeros d
-  none = ap fillings z ∙ zero_fillings d
-
-  module _ (after : List ℕ) (o : DecodeAnswer) (done : DecodeDone degree 1 r w before [] after o) where
-    -- what an answer says
-    pub decoded_answer : (t : Report) → o ≡ answer.Decoded t → DecodingDone d 1 r (zeros d) after t
-    decoded_answer t h = record {
-      cells = done.cells ∙ given_taken Tests degree (λ d. plain d 1 r r (fillings w)) before taken_call ∙ ap (plain d 1 r r) none;
-      count = sym (ap (λ (a : DecodeAnswer). (decode_numbers a).1) h) ∙ done.count ∙ given_taken Tests degree (λ d. plain_count d 1 r r (fillings w)) 0 taken_call ∙ ap (plain_count d 1 r r) none;
-      erasures = sym (ap (λ (a : DecodeAnswer). (decode_numbers a).2) h) ∙ done.erasures ∙ given_taken Tests degree (λ d. erasures (plain d 1 r r (fillings w))) 0 taken_call ∙ ap (λ (x : List ℕ). erasures (plain d 1 r r x)) none;
-      closed = sym (ap (λ (a : DecodeAnswer). (decode_numbers a).3) h) ∙ done.closed ∙ given_taken Tests degree (λ d. closed d (plain d 1 r r (fillings w))) false taken_call ∙ ap (λ (x : List ℕ). closed d (plain d 1 r r x)) none;
-    }
-
-    -- no answer is a refusal
-    pub never_refused : (why : Refusal) → o ≡ answer.Refused why → ⊥
-    never_refused why h = some_number why (sym (ap (λ (a : DecodeAnswer). (decode_numbers a).0) h) ∙ done.refusal ∙ taken_call.0)
 
 -- ---- what is printed for a decoding
 
@@ -127,7 +87,7 @@ report_is d t e f v = rw (v.cells, v.count, v.erasures, v.closed, f, e)
 
 module _ (t : List ℕ) where
   -- after the first line, the lines by their degree
-  pub sheet_known : (d : Degree) (r : Call) {rest : List ℕ} → rest ≡ drop 2 t → named (first_line t) ≡ Known d
+  pub sheet_known : (d : Degree) (r : Result Degree Refusal) {rest : List ℕ} → rest ≡ drop 2 t → named (first_line t) ≡ Some d
       → Tested (bits d) ((3, not (shaped (size d) rest)) ∷ (4, not (known rest)) ∷ []) r → Tested (first_line t) (sheet_tests t) r
   unfolding sheet_tests
   sheet_known d r {rest} f e h =
@@ -135,7 +95,7 @@ module _ (t : List ℕ) where
       (rw (e, known_size (first_line t) d e, f)) h
 
   -- a text that is taken has the length of its lines
-  pub sheet_takes : (d : Degree) → (refusal (sheet_tests t) ≡ 0) × (named (first_line t) ≡ Known d) → length (drop 2 t) ≡ size d * (size d + 1)
+  pub sheet_takes : (d : Degree) → (refusal (sheet_tests t) ≡ 0) × (named (first_line t) ≡ Some d) → length (drop 2 t) ≡ size d * (size d + 1)
   unfolding sheet_tests shaped
   sheet_takes d h =
       let n = 2 ^ first_line t in
@@ -144,7 +104,7 @@ module _ (t : List ℕ) where
       rw (known_size (first_line t) d h.1) at (eqb-true (length (drop 2 t)) (n * (n + 1)) q.0)
 
   -- what is printed
-  pub printed_taken : (d : Degree) → (refusal (sheet_tests t) ≡ 0) × (named (first_line t) ≡ Known d) → decoded_text d (cells_of (size d) (drop 2 t)) ≡ printed t
+  pub printed_taken : (d : Degree) → (refusal (sheet_tests t) ≡ 0) × (named (first_line t) ≡ Some d) → decoded_text d (cells_of (size d) (drop 2 t)) ≡ printed t
   unfolding printed
   printed_taken d h = sym (given_taken (sheet_tests t) (first_line t) (λ d. decoded_text d (cells_of (size d) (drop 2 t))) (refusal_text (refusal (sheet_tests t))) h)
 
@@ -158,11 +118,11 @@ pub is_of : (d : Degree) {n : ℕ} {x y : Bool} → n ≡ size d → (t : List �
 is_of d e t f g = ap (λ (k : ℕ). shaped k t) (sym e) ∙ sym f ∙ g
 
 -- a first line that names a degree has two bytes
-pub named_long : (t : List ℕ) (d : Degree) → named (first_line t) ≡ Known d → 2 ≤ length t
+pub named_long : (t : List ℕ) (d : Degree) → named (first_line t) ≡ Some d → 2 ≤ length t
 named_long t d e = dite (dec_lt (length t) 2) (λ q. absurd (short q)) (λ q. omega arith)
   where
     short : length t < 2 → ⊥
-    short q = let f : named (first_line t) ≡ Unknown = rw (get_or-eq_default t 0 {n = 1} (omega arith)) in known_unknown e f
+    short q = let f : named (first_line t) ≡ None = rw (get_or-eq_default t 0 {n = 1} (omega arith)) in known_unknown e f
 
 pub rest_is : (t : List ℕ) → take (length t - 2) (drop 2 t) ≡ drop 2 t
 rest_is t = take_all (length t - 2) (drop 2 t) (omega (arith, length-drop 2 t))

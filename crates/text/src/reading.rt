@@ -1,45 +1,30 @@
 // What is read: the first line, the tests of the lines after it, and their cells.
-ghost use Rattle.std.specs.Prelude.{◌≡◌, ◌+◌, ◌-◌, ◌*◌, ◌≤◌, length};
+ghost use Rattle.std.specs.Prelude.{◌≡◌, MatchOption, map, ◌+◌, ◌-◌, ◌*◌, ◌≤◌, length};
 ghost use Rattle.laws.specs.Tests.{every};
-ghost use Rattle.text.specs.Text.{byte, first_line, shaped, known, cells_of};
-ghost use Rattle.text.specs.Working.Characters.{placed};
+ghost use Rattle.text.specs.Text.{byte, first_line, shaped, known, cell_of, cells_of};
+ghost use Rattle.text.specs.Working.Characters.{placed, is_known};
 
-use crate::turning::{Turn, put_turned};
+use crate::turning::cell_of;
 
-// The number of a digit; 0 for a character below the digits.
-fn digit_of(character: u8) -> u64
-    ensures { result ≡ character - 48 }
+// The degree that the first line says, if that is just a character and a newline.
+pub fn first_line(text: &[u8]) -> Option<u64>
+    ensures { MatchOption result (first_line text.now ≡ 0) (λ degree. degree ≡ first_line text.now) }
 {
-    if character < 48 {
-        0
+    if text.len() < 2 || text[1] != b'\n' {
+        None
     } else {
-        (character - 48) as u64
+        Some(u64::from(text[0].saturating_sub(b'0')))
     }
 }
 
-// The degree that the first line says, 0 for none.
-pub fn first_line(text: &[u8]) -> u64
-    ensures { result ≡ first_line text.now }
-{
-    if text.len() < 2 {
-        0
-    } else if text[1] == 10 {
-        digit_of(text[0])
-    } else {
-        0
-    }
-}
+// That n is at most 128 is asked, so that no place in the text wraps; with the degree in its place each function would look n up anew.
 
 // Is byte p a newline exactly if it should be one?
 fn is_placed(n: usize, p: usize, byte: u8) -> bool
     requires { n ≤ 128 }
     ensures { result ≡ placed n p byte }
 {
-    if p % (n + 1) == n {
-        byte == 10
-    } else {
-        byte != 10
-    }
+    (byte == b'\n') == (p % (n + 1) == n)
 }
 
 // Is every newline where it should be?
@@ -47,13 +32,9 @@ fn all_placed(n: usize, text: &[u8]) -> bool
     requires { n ≤ 128 }
     ensures { result ≡ every (λ p. placed n p (byte text.now p)) (length text.now) }
 {
-    let mut all = true;
-    let mut p = 0;
-    while p < text.len() {
-        all = is_placed(n, p, text[p]) & all;
-        p += 1;
-    }
-    all
+    text.iter()
+        .enumerate()
+        .all(|(p, byte)| is_placed(n, p, *byte))
 }
 
 // Test 3: n lines of n cells and a newline. No byte is read where their total is wrong.
@@ -68,18 +49,28 @@ pub fn is_shaped(n: usize, text: &[u8]) -> bool
     }
 }
 
+// A newline, or the character of a cell.
+fn is_known_byte(byte: u8) -> bool
+    ensures { result ≡ is_known byte }
+{
+    matches!(byte, b'\n' | b'0' | b'1' | b'?')
+}
+
 // Test 4: no character but a newline, 0, 1 and ?.
 pub fn is_known(text: &[u8]) -> bool
     ensures { result ≡ known text.now }
 {
-    let mut all = true;
-    let mut p = 0;
-    while p < text.len() {
-        let b = text[p];
-        all = ((b == 10) | ((b == 48) | ((b == 49) | (b == 63)))) & all;
-        p += 1;
+    text.iter().all(|byte| is_known_byte(*byte))
+}
+
+// The cells of a line.
+fn read_line(line: &[u8], cells: &mut [u8])
+    requires { length cells.old ≡ length line.now }
+    ensures { cells.new ≡ map cell_of line.now }
+{
+    for (i, character) in line.iter().enumerate() {
+        cells[i] = cell_of(*character);
     }
-    all
 }
 
 // The cells of n lines, each without its newline.
@@ -87,13 +78,9 @@ pub fn read_cells(n: usize, text: &[u8], cells: &mut [u8])
     requires { (n ≤ 128) × (length text.now ≡ n * (n + 1)) × (length cells.old ≡ n * n) }
     ensures { cells.new ≡ cells_of n text.now }
 {
-    let mut next = 0;
-    let mut from = 0;
-    let mut i = 0;
-    while i < n {
-        let end = from + n;
-        next = put_turned(Turn::ToCells, &text[from..end], next, cells);
-        from = end + 1;
-        i += 1;
+    for i in 0..n {
+        let from = i * (n + 1);
+        let to = i * n;
+        read_line(&text[from..from + n], &mut cells[to..to + n]);
     }
 }

@@ -1,88 +1,130 @@
-// What is printed. Each function writes a text into the output from a place on, and returns the place after it.
-ghost use Rattle.std.specs.Prelude.{◌≡◌, ◌+◌, ◌*◌, ◌≤◌, length};
+// What is printed: a text that grows byte by byte, in room for the longest.
+ghost use Rattle.std.specs.Prelude.{◌≡◌, ℕ, List, [], ◌∷◌, ◌++◌, ◌+◌, ◌*◌, ◌<◌, ◌≤◌, length, take};
 ghost use Rattle.text.specs.Text.{decimal, number_text, numbers_text, line_text, array_text, report_text, refusal_text};
 ghost use Rattle.text.specs.Writing.{Wrote};
 
-use crate::turning::{Turn, put_byte, put_turned};
+use crate::turning::char_of;
+use array::report::Report;
+use std::marker::Model;
 
-fn put_decimal(number: u64, at: usize, output: &mut [u8]) -> usize
-    requires { at + length (decimal number) ≤ length output.old }
-    ensures { Wrote output.old at (decimal number) output.new result }
-{
-    if number < 10 {
-        put_byte(48 + number as u8, at, output)
-    } else {
-        let next = put_decimal(number / 10, at, output);
-        put_byte(48 + (number % 10) as u8, next, output)
+// Four numbers of 21 bytes at most, and 128 lines of 129 bytes at most.
+pub const LONGEST: usize = 16596;
+
+#[derive(Drop)]
+pub struct Output {
+    bytes: [u8; LONGEST],
+    long: usize,
+}
+
+// Clauses see the text so far.
+impl Model for Output {
+    ghost Value = { List ℕ };
+
+    ghost view = { λ o. take o.long o.bytes };
+
+    ghost invariant = { λ o. o.long ≤ 16596 };
+}
+
+impl Output {
+    pub fn new() -> Output
+        ensures { result ≡ [] }
+    {
+        Output {
+            bytes: [0; LONGEST],
+            long: 0,
+        }
     }
-}
 
-// A number, which has 20 digits at most, and the byte after it.
-fn put_number(number: u64, end: u8, at: usize, output: &mut [u8]) -> usize
-    requires { at + 21 ≤ length output.old }
-    ensures { Wrote output.old at (number_text number end) output.new result × (result ≤ at + 21) }
-{
-    let next = put_decimal(number, at, output);
-    put_byte(end, next, output)
-}
-
-// The first line.
-fn put_numbers(a: u64, b: u64, c: u64, e: u64, output: &mut [u8]) -> usize
-    requires { 84 ≤ length output.old }
-    ensures { Wrote output.old 0 (numbers_text a b c e) output.new result × (result ≤ 84) }
-{
-    let second = put_number(a, 32, 0, output);
-    let third = put_number(b, 32, second, output);
-    let fourth = put_number(c, 32, third, output);
-    put_number(e, 10, fourth, output)
-}
-
-// A line of cells.
-fn put_line(cells: &[u8], at: usize, output: &mut [u8]) -> usize
-    requires { at + length cells.now + 1 ≤ length output.old }
-    ensures { Wrote output.old at (line_text cells.now) output.new result }
-{
-    let next = put_turned(Turn::ToCharacters, cells, at, output);
-    put_byte(10, next, output)
-}
-
-// The n lines of n cells.
-fn put_lines(n: usize, cells: &[u8], at: usize, output: &mut [u8]) -> usize
-    requires { (n ≤ 128) × (length cells.now ≡ n * n) × (at + n * (n + 1) ≤ length output.old) }
-    ensures { Wrote output.old at (array_text n cells.now) output.new result }
-{
-    let mut next = at;
-    let mut from = 0;
-    let mut i = 0;
-    while i < n {
-        let end = from + n;
-        next = put_line(&cells[from..end], next, output);
-        from = end;
-        i += 1;
+    // Every byte that is printed goes through here.
+    fn put(&mut self, byte: u8)
+        requires { length self.old < 16596 }
+        ensures { self.new ≡ self.old ++ byte ∷ [] }
+    {
+        self.bytes[self.long] = byte;
+        self.long += 1;
     }
-    next
-}
 
-// All that is printed for a call that was taken: four numbers of 21 bytes at most, and 128 lines of 129 bytes at most.
-pub fn report_text(
-    n: usize,
-    cells: &[u8],
-    count: u64,
-    erasures: u64,
-    closed: bool,
-    output: &mut [u8],
-) -> usize
-    requires { (n ≤ 128) × (length cells.now ≡ n * n) × (16596 ≤ length output.old) }
-    ensures { Wrote output.old 0 (report_text n cells.now count erasures closed) output.new result }
-{
-    let shut: u64 = if closed { 1 } else { 0 };
-    let next = put_numbers(0, count, erasures, shut, output);
-    put_lines(n, cells, next, output)
-}
+    // By hand, since std prints a number by `write!`, whose error no clause rules out, or into memory that it allocates.
+    fn put_decimal(&mut self, number: u64)
+        requires { length self.old + length (decimal number) ≤ 16596 }
+        ensures { self.new ≡ self.old ++ decimal number }
+    {
+        if number < 10 {
+            self.put(b'0' + number as u8);
+        } else {
+            self.put_decimal(number / 10);
+            self.put(b'0' + (number % 10) as u8);
+        }
+    }
 
-pub fn refusal_text(number: u64, output: &mut [u8]) -> usize
-    requires { 16596 ≤ length output.old }
-    ensures { Wrote output.old 0 (refusal_text number) output.new result }
-{
-    put_numbers(number, 0, 0, 0, output)
+    // A number, which has 20 digits at most, and the byte after it.
+    fn put_number(&mut self, number: u64, end: u8)
+        requires { length self.old + 21 ≤ 16596 }
+        ensures text { self.new ≡ self.old ++ number_text number end }
+        ensures short { length self.new ≤ length self.old + 21 }
+    {
+        self.put_decimal(number);
+        self.put(end);
+    }
+
+    // The first line.
+    fn put_numbers(&mut self, a: u64, b: u64, c: u64, e: u64)
+        requires { length self.old + 84 ≤ 16596 }
+        ensures text { self.new ≡ self.old ++ numbers_text a b c e }
+        ensures short { length self.new ≤ length self.old + 84 }
+    {
+        self.put_number(a, b' ');
+        self.put_number(b, b' ');
+        self.put_number(c, b' ');
+        self.put_number(e, b'\n');
+    }
+
+    // A line of cells.
+    fn put_line(&mut self, cells: &[u8])
+        requires { length self.old + length cells.now + 1 ≤ 16596 }
+        ensures { self.new ≡ self.old ++ line_text cells.now }
+    {
+        for cell in cells {
+            self.put(char_of(*cell));
+        }
+        self.put(b'\n');
+    }
+
+    // The n lines of n cells.
+    fn put_lines(&mut self, n: usize, cells: &[u8])
+        requires { (n ≤ 128) × (length cells.now ≡ n * n) × (length self.old + n * (n + 1) ≤ 16596) }
+        ensures { self.new ≡ self.old ++ array_text n cells.now }
+    {
+        for i in 0..n {
+            let at = i * n;
+            self.put_line(&cells[at..at + n]);
+        }
+    }
+
+    // All that is printed for a call that was taken.
+    pub fn put_report(&mut self, n: usize, cells: &[u8], report: Report)
+        requires { (self.old ≡ []) × (n ≤ 128) × (length cells.now ≡ n * n) }
+        ensures { self.new ≡ report_text n cells.now report.count report.erasures report.closed }
+    {
+        let shut = u64::from(report.closed);
+        self.put_numbers(0, report.count, report.erasures, shut);
+        self.put_lines(n, cells);
+    }
+
+    pub fn put_refusal(&mut self, number: u64)
+        requires { self.old ≡ [] }
+        ensures { self.new ≡ refusal_text number }
+    {
+        self.put_numbers(number, 0, 0, 0);
+    }
+
+    // The text, written to the front of a slice; returns its length.
+    pub fn copy_to(&self, output: &mut [u8]) -> usize
+        requires { 16596 ≤ length output.old }
+        ensures { Wrote output.old 0 self.now output.new result }
+    {
+        let long = self.long;
+        output[..long].copy_from_slice(&self.bytes[..long]);
+        long
+    }
 }

@@ -1,13 +1,17 @@
 -- Bytes joined to words and put back: eight are four and four, and joined bytes are the bytes of their word.
 -- Assumes nothing.
 use mathlib.Core.Path.{◌≡◌, refl, sym, ap, ◌∙◌}
-use mathlib.Core.List.{List, [], ◌∷◌}
-use Prim.Native.Nat.{ℕ, zero, suc, ◌+◌, ◌*◌, ◌/◌, ◌%◌, ◌^◌, ◌≤◌, ◌<◌}
+use mathlib.Core.List.{List, [], ◌∷◌, ◌++◌, append_assoc}
+use Prim.Native.Nat.{ℕ, zero, suc, ◌+◌, ◌-◌, ◌*◌, ◌/◌, ◌%◌, ◌^◌, ◌≤◌, ◌<◌}
 use native.Mathlib.Nat.{add-zero, add-suc, pow-suc}
 use native.Mathlib.Omega.{arith}
-use lib.ListN.{length, get_or, take, drop, set}
+use lib.ListN.{length, get_or, take, drop, length-drop}
 use lib.Pow.{shr-shr}
-use lib.Seq.{drop-cons, sets}
+use borrow.Rule.Slice.PartMut.{put_mid}
+use lib.Seq.{drop-cons, sets, sets-eq, take_all, length-take-le}
+use Rattle.std.proofs.lemmas.List.{drop-drop}
+use Rattle.std.specs.Simd.{first_chunks}
+use Rattle.std.specs.Int.{w64, from_le_bytes, to_le_bytes}
 use Rattle.words.specs.Working.Bytes.{joined, bytes_of, gathered}
 
 -- ---- bytes joined
@@ -30,34 +34,45 @@ joined_four s at h =
     let e = rw (add-zero at) at (run s at 0 4 (omega arith)) in
     ap joined e ∙ omega arith
 
--- eight are four and four
-pub joined_eight : (s : List ℕ) (at : ℕ) → at + 8 ≤ length s
-    → joined (take 8 (drop at s)) ≡ joined (take 4 (drop at s)) + joined (take 4 (drop (at + 4) s)) * 4294967296
+-- eight bytes of a list cut in eights
+pub eight_at : (k : ℕ) (s : List ℕ) (i : ℕ) → i < k → get_or (first_chunks 8 k s) i [] ≡ take 8 (drop (8 * i) s)
+eight_at zero s i h = absurd (omega arith)
+eight_at (suc k) s zero h = refl
+eight_at (suc k) s (suc i) h =
+    let e : 8 + 8 * i ≡ 8 * suc i = omega arith in
+    eight_at k (drop 8 s) i (omega arith) ∙ ap (take 8) (drop-drop (8 * i) 8 s ∙ ap (λ (n : ℕ). drop n s) e)
+
+-- eight bytes read as std does
+pub joined_eight : (bs : List ℕ) → length bs ≡ 8 → from_le_bytes w64 bs ≡ joined bs
 unfolding joined
-joined_eight s at h =
-    let e8 = ap joined (rw (add-zero at) at (run s at 0 8 (omega arith))) in
-    let e4 = ap joined (rw (add-zero at) at (run s at 0 4 (omega arith))) in
-    let f4 = ap joined (run s at 4 4 (omega arith)) in
-    omega arith
+joined_eight bs h =
+    let e : bs ≡ from bs 0 0 8 = sym (take_all 8 bs (omega arith)) ∙ run bs 0 0 8 (omega arith) in
+    sym (ap joined e ∙ omega arith)
+
+-- eight bytes of a list cut in k eights, read
+pub read_at : (k : ℕ) (s : List ℕ) (i : ℕ) → i < k → 8 * i + 8 ≤ length s → (eights : List (List ℕ)) → eights ≡ first_chunks 8 k s → (x : ℕ) → x ≡ from_le_bytes w64 (get_or eights i [])
+    → x ≡ joined (take 8 (drop (8 * i) s))
+read_at k s i h room eights e x q =
+    let p : get_or eights i [] ≡ take 8 (drop (8 * i) s) = ap (λ (l : List (List ℕ)). get_or l i []) e ∙ eight_at k s i h in
+    q ∙ ap (from_le_bytes w64) p ∙ joined_eight (take 8 (drop (8 * i) s)) (length-take-le 8 (drop (8 * i) s) (rw length-drop (omega arith)))
 
 -- ---- the bytes of a word put
 
-pub put_four_bytes : (s : List ℕ) (at x : ℕ) {a b c e : ℕ} → a ≡ x % 256 → b ≡ x / 2 ^ 8 % 256 → c ≡ x / 2 ^ 16 % 256 → e ≡ x / 2 ^ 24 % 256
-    → set (set (set (set s at a) (at + 1) b) (at + 2) c) (at + 3) e ≡ sets s at (bytes_of 4 x)
+-- the bytes that std writes
+pub eight_bytes : (x : ℕ) → to_le_bytes w64 x ≡ bytes_of 8 x
 unfolding bytes_of
-put_four_bytes s at x ea eb ec ee =
-    let e1 : at + 1 ≡ suc at = omega arith in
-    let e2 : at + 2 ≡ suc (suc at) = omega arith in
-    let e3 : at + 3 ≡ suc (suc (suc at)) = omega arith in
-    rw (e1, e2, e3, ea, eb, ec, ee, shr-shr x 8 8, shr-shr x 16 8)
+eight_bytes x = rw (shr-shr x 8 8, shr-shr x 16 8, shr-shr x 24 8, shr-shr x 32 8, shr-shr x 40 8, shr-shr x 48 8)
 
--- eight bytes are four and four
-pub put_eight_bytes : (s : List ℕ) (at x : ℕ) → sets (sets s at (bytes_of 4 x)) (at + 4) (bytes_of 4 (x / 2 ^ 32)) ≡ sets s at (bytes_of 8 x)
+pub four_bytes : (x : ℕ) → take 4 (to_le_bytes w64 x) ≡ bytes_of 4 x
 unfolding bytes_of
-put_eight_bytes s at x =
-    let e : at + 4 ≡ suc (suc (suc (suc at))) = omega arith in
-    let q : x / 2 ^ 32 ≡ x / 256 / 256 / 256 / 256 = sym (rw (shr-shr x 8 8, shr-shr x 16 8, shr-shr x 24 8)) in
-    rw (e, q)
+four_bytes x = rw (shr-shr x 8 8, shr-shr x 16 8)
+
+-- bytes written over those from `at` on
+pub put_bytes : (s vs ys : List ℕ) (at n : ℕ) → length vs ≡ n → at + n ≤ length s → ys ≡ vs → put_mid at (at + n - at) s ys ≡ sets s at vs
+put_bytes s vs ys at n l h e =
+    let k : at + n - at ≡ n = omega arith in
+    let p = sets-eq vs s at (omega (arith, l)) ∙ append_assoc (take at s) vs (drop (at + length vs) s) in
+    rw (k, e) (ap (λ (r : List ℕ). take at s ++ (vs ++ r)) (drop-drop n at s) ∙ sym (rw l at p))
 
 -- ---- joined, and taken apart again
 

@@ -12,8 +12,11 @@ use lib.Dec.{eqb}
 use lib.Pow.{pow-add, shl_exact, low, high}
 use borrow.Author.Tests.{eqb-true, eqb-false, eq-eqb, ne_eqb}
 use Rattle.laws.specs.Working.Bits.{bit_at}
+use Rattle.words.specs.declared.word.Word.{Word}
+use Rattle.words.specs.Working.Word.{value}
 use Rattle.laws.proofs.Bits.{shr_at, mod_at}
 use Rattle.laws.proofs.Masks.{lowest}
+use Rattle.laws.proofs.Tests.{and_true}
 
 -- a number of j + k digits by its halves
 pub halves_lt : (j k h l : ℕ) → h < 2 ^ j → l < 2 ^ k → h * 2 ^ k + l < 2 ^ (j + k)
@@ -30,6 +33,17 @@ same_halves h l i k a b = go (eqb l k) refl (eqb h i) refl
     go false e y f = sym (ne_eqb (h * 2 ^ 64 + l) (i * 2 ^ 64 + k) (λ z. eqb-false l k e (omega arith)))
     go true e true f = sym (eq-eqb (h * 2 ^ 64 + l) (i * 2 ^ 64 + k) (omega (arith, eqb-true l k e, eqb-true h i f)))
     go true e false f = sym (ne_eqb (h * 2 ^ 64 + l) (i * 2 ^ 64 + k) (λ z. eqb-false h i f (omega (arith, eqb-true l k e))))
+
+-- what `==` says of two words
+pub same_words : (a b : Word) → (eqb a.low b.low && eqb a.high b.high) ≡ true → value a ≡ value b
+unfolding value
+same_words a b e =
+    let t = and_true (eqb a.low b.low) (eqb a.high b.high) e in
+    rw (eqb-true a.low b.low t.0, eqb-true a.high b.high t.1)
+
+pub same_values : (a b : Word) → a.low < 2 ^ 64 → b.low < 2 ^ 64 → (eqb a.low b.low && eqb a.high b.high) ≡ eqb (value a) (value b)
+unfolding value
+same_values a b = same_halves a.high a.low b.high b.low
 
 -- ---- all digits at once
 

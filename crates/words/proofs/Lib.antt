@@ -1,5 +1,4 @@
 mod SwapLaws
-mod CopyLaws
 pub mod ByteLaws
 mod GatherLaws
 pub mod ZeroLaws

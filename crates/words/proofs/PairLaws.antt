@@ -125,7 +125,7 @@ module _ (cut : ℕ) (bytes : List ℕ) (h : cut ≤ length bytes) (few : length
 
 -- ---- spread
 
-length_pairs : (k a b : ℕ) → length (pairs_of k a b) ≡ k
+pub length_pairs : (k a b : ℕ) → length (pairs_of k a b) ≡ k
 unfolding pairs_of
 length_pairs zero a b = refl
 length_pairs (suc k) a b = ap suc (length_pairs k (a / 2) (b / 2))
@@ -169,9 +169,8 @@ spread_turn out n at a b h l =
     ∙ ap (λ (r : List ℕ). take at out ++ (r ++ pairs_of (n - (at + 8)) (a / 256) (b / 256))) (pairs_low 8 a b)
     ∙ ap (λ (r : List ℕ). take at out ++ r) (sym (ap (λ (k : ℕ). pairs_of k a b) more ∙ pairs_add 8 (n - (at + 8)) a b))
 
-pub put_pairs : (out out' : List ℕ) (at a b : ℕ) {x y : ℕ} → x ≡ joined (digits 8 (a % 256)) → y ≡ joined (digits 8 (b % 256))
-    → out' ≡ sets out at (bytes_of 8 (x + 2 * y)) → out' ≡ sets out at (pairs_of 8 (a % 256) (b % 256))
-put_pairs out out' at a b ex ey e = e ∙ ap (sets out at) (ap₂ (λ (x y : ℕ). bytes_of 8 (x + 2 * y)) ex ey ∙ bytes_pairs (a % 256) (b % 256))
+pub put_pairs : (a b : ℕ) {x y : ℕ} → x ≡ joined (digits 8 (a % 256)) → y ≡ joined (digits 8 (b % 256)) → bytes_of 8 (x + 2 * y) ≡ pairs_of 8 (a % 256) (b % 256)
+put_pairs a b ex ey = ap₂ (λ (x y : ℕ). bytes_of 8 (x + 2 * y)) ex ey ∙ bytes_pairs (a % 256) (b % 256)
 
 -- beside a second word of 0, the bytes are the digits of the first
 pub pairs_digits : (n a : ℕ) → pairs_of n a 0 ≡ digits n a

@@ -21,6 +21,7 @@ use Rattle.laws.proofs.DigitSums.{sum_cong, sum_append, sum_digits_zero, digits_
 use Rattle.laws.proofs.Linear.{to_last}
 use Rattle.laws.proofs.Xor.{xor_assoc}
 use Rattle.words.specs.Working.Grid.{word_in}
+use Rattle.words.specs.declared.word.grid.Grid.{Grid}
 use Rattle.words.specs.Working.Sums.{chosen_sum, ByteSums}
 
 -- ---- chosen words
@@ -31,22 +32,19 @@ where_one x zero h = sym (zero-mul x)
 where_one x (suc zero) h = sym (one-mul x)
 where_one x (suc (suc b)) h = absurd (omega arith)
 
-module _ (t ws : List ℕ) (i sum a : ℕ) (e : sum ≡ chosen_sum t ws a i) where
-  more : chosen_sum t ws (a + 1) i ≡ bit_xor sum (bit_at (word_in t 0 a) i * word_in ws 0 a)
+module _ (t ws : Grid) (i sum a : ℕ) (e : sum ≡ chosen_sum t ws a i) where
+  more : chosen_sum t ws (a + 1) i ≡ bit_xor sum (bit_at (word_in t a) i * word_in ws a)
   unfolding chosen_sum
   more =
-      ap (λ (x : ℕ). xor_to x (λ a. bit_at (word_in t 0 a) i * word_in ws 0 a)) (add-one a)
-      ∙ to_last a (λ a. bit_at (word_in t 0 a) i * word_in ws 0 a) ∙ ap (λ (x : ℕ). bit_xor x (bit_at (word_in t 0 a) i * word_in ws 0 a)) (sym e)
+      ap (λ (x : ℕ). xor_to x (λ a. bit_at (word_in t a) i * word_in ws a)) (add-one a)
+      ∙ to_last a (λ a. bit_at (word_in t a) i * word_in ws a) ∙ ap (λ (x : ℕ). bit_xor x (bit_at (word_in t a) i * word_in ws a)) (sym e)
 
   -- one word more: it is added where its entry has bit i
-  pub chosen_next : {unit word bit next : ℕ} → unit ≡ word_in t 0 a → bit ≡ bit_at unit i → word ≡ word_in ws 0 a → next ≡ bit_xor sum (cond (eqb bit 1) word 0)
+  pub chosen_next : {unit word bit next : ℕ} → unit ≡ word_in t a → bit ≡ bit_at unit i → word ≡ word_in ws a → next ≡ bit_xor sum (cond (eqb bit 1) word 0)
       → next ≡ chosen_sum t ws (a + 1) i
   chosen_next u b w n =
       n ∙ ap₂ (λ (x y : ℕ). bit_xor sum (cond (eqb x 1) y 0)) (b ∙ ap (λ (x : ℕ). bit_at x i) u) w
-      ∙ ap (bit_xor sum) (where_one (word_in ws 0 a) (bit_at (word_in t 0 a) i) (bit_at_lt (word_in t 0 a) i)) ∙ sym more
-
-  pub chosen_all : (k : ℕ) → a ≤ k → k ≤ a → sum ≡ chosen_sum t ws k i
-  chosen_all k l h = let n : a ≡ k = omega arith in e ∙ ap (λ (x : ℕ). chosen_sum t ws x i) n
+      ∙ ap (bit_xor sum) (where_one (word_in ws a) (bit_at (word_in t a) i) (bit_at_lt (word_in t a) i)) ∙ sym more
 
 -- ---- table entries by bytes
 

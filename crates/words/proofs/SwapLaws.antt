@@ -84,10 +84,6 @@ module _ (j m x y : ℕ) where
 
 -- ---- a block, a pair of rows a turn
 
--- before the first turn nothing has changed
-pub swapped_none : (j m g : ℕ) (a : List ℕ) → length a ≡ 64 → Swapped j m g 0 a a
-swapped_none j m g a l = record { long = l; most = omega arith; up = λ p h. absurd (omega arith); down = λ p h. absurd (omega arith); rest = λ r h. refl }
-
 module _ (j m g i : ℕ) (a b : List ℕ) (s : Swapped j m g i a b) (less : i < j) (room : g + 2 * j ≤ 64) where
   abbrev x : ℕ
   x = get_or b (g + i) 0
@@ -133,10 +129,6 @@ pub record Staged (j m k : ℕ) (a b : List ℕ) : Type 0 where
   pub up : (x p : ℕ) → x < k → p < j → get_or b (x * (2 * j) + p) 0 ≡ upper j m (get_or a (x * (2 * j) + p) 0) (get_or a (x * (2 * j) + (j + p)) 0)
   pub down : (x p : ℕ) → x < k → p < j → get_or b (x * (2 * j) + (j + p)) 0 ≡ lower j m (get_or a (x * (2 * j) + p) 0) (get_or a (x * (2 * j) + (j + p)) 0)
   pub rest : (r : ℕ) → k * (2 * j) ≤ r → get_or b r 0 ≡ get_or a r 0
-
--- before the first block nothing has changed
-pub staged_none : (j m : ℕ) (a : List ℕ) → length a ≡ 64 → Staged j m 0 a a
-staged_none j m a l = record { long = l; up = λ x p h k. absurd (omega arith); down = λ x p h k. absurd (omega arith); rest = λ r h. refl }
 
 -- a block has room below the last
 pub block_room : (j g q k : ℕ) → g ≡ q * (2 * j) → q < k → g + 2 * j ≤ k * (2 * j)

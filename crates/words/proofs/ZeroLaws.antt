@@ -34,19 +34,23 @@ or_is_zero (suc x) (suc y) =
 pub zeros_next : (words : List ℕ) (i any : ℕ) → eqb any 0 ≡ are_zero words i → eqb (bit_or any (get_or words i 0)) 0 ≡ are_zero words (i + 1)
 zeros_next words i any h = or_is_zero any (get_or words i 0) ∙ every_next (λ i. eqb (get_or words i 0) 0) i refl h
 
--- 64 words that are 0 are their own transpose
-pub zeros_turned : (a : List ℕ) → length a ≡ 64 → are_zero a (length a) ≡ true → Turned a a
-zeros_turned a l e = record {
+-- 64 numbers that are 0 are the transpose of such numbers
+pub nothing_turned : (a b : List ℕ) → ((i : ℕ) → get_or a i 0 ≡ 0) → length b ≡ 64 → ((i : ℕ) → get_or b i 0 ≡ 0) → Turned a b
+nothing_turned a b y l z = record {
   long = l;
-  small = λ i. rw (zero_at i) (omega arith);
-  bits = λ i j p q. rw (zero_at i, zero_at j) (zero_bit j ∙ sym (zero_bit i));
+  small = λ i. rw (z i) (omega arith);
+  bits = λ i j p q. rw (z i, y j) (zero_bit j ∙ sym (zero_bit i));
 }
+  where
+    zero_bit : (j : ℕ) → 0 / 2 ^ j % 2 ≡ 0
+    zero_bit j = ap (λ (x : ℕ). x % 2) (zero-div (2 ^ j))
+
+-- and they are their own
+pub zeros_turned : (a : List ℕ) → length a ≡ 64 → are_zero a (length a) ≡ true → Turned a a
+zeros_turned a l e = nothing_turned a a zero_at l zero_at
   where
     zero_at : (i : ℕ) → get_or a i 0 ≡ 0
     zero_at i =
         dite (dec_lt i (length a))
         (λ h. eqb→eq (get_or a i 0) 0 (every_at (λ i. eqb (get_or a i 0) 0) (length a) (subst T (sym e) tt) h))
         (λ h. get_or-eq_default a 0 {n = i} (omega arith))
-
-    zero_bit : (j : ℕ) → 0 / 2 ^ j % 2 ≡ 0
-    zero_bit j = ap (λ (x : ℕ). x % 2) (zero-div (2 ^ j))

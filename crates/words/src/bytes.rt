@@ -4,29 +4,15 @@ ghost use Rattle.std.proofs.lemmas.List.Edits.{sets};
 ghost use Rattle.laws.specs.Digits.{digits};
 ghost use Rattle.words.specs.Working.Bytes.{joined, gathered, bytes_of};
 
-fn wide(x: u8) -> u64
-    ensures { (result ≡ x) × (result < 256) }
-{
-    x as u64
-}
+// A place in a slice is handed along with it: cut out at each call, four bytes would be no plainer.
 
 // Four bytes as one number, the first the lowest.
 pub fn four(bytes: &[u8], at: usize) -> u64
     requires { at + 4 ≤ length bytes.now }
     ensures { (result ≡ joined (take 4 (drop at bytes.now))) × (result < 4294967296) }
 {
-    wide(bytes[at])
-        + wide(bytes[at + 1]) * 0x100
-        + wide(bytes[at + 2]) * 0x1_0000
-        + wide(bytes[at + 3]) * 0x100_0000
-}
-
-// Eight bytes as one word.
-pub fn eight(bytes: &[u8], at: usize) -> u64
-    requires { at + 8 ≤ length bytes.now }
-    ensures { result ≡ joined (take 8 (drop at bytes.now)) }
-{
-    four(bytes, at) + four(bytes, at + 4) * 0x1_0000_0000
+    let four = [bytes[at], bytes[at + 1], bytes[at + 2], bytes[at + 3]];
+    u64::from(u32::from_le_bytes(four))
 }
 
 // The lowest bits of eight bytes.
@@ -50,28 +36,10 @@ pub fn spread(x: u64) -> u64
     (b | (b << 7)) & 0x0101_0101_0101_0101
 }
 
-fn low_byte(x: u64) -> u8
-    ensures { result ≡ x % 256 }
-{
-    (x % 256) as u8
-}
-
 // The four low bytes of a word, the lowest first.
 pub fn put_four(bytes: &mut [u8], at: usize, x: u64)
     requires { at + 4 ≤ length bytes.old }
     ensures { bytes.new ≡ sets bytes.old at (bytes_of 4 x) }
 {
-    bytes[at] = low_byte(x);
-    bytes[at + 1] = low_byte(x >> 8);
-    bytes[at + 2] = low_byte(x >> 16);
-    bytes[at + 3] = low_byte(x >> 24);
-}
-
-// The eight bytes of a word.
-pub fn put_eight(bytes: &mut [u8], at: usize, x: u64)
-    requires { at + 8 ≤ length bytes.old }
-    ensures { bytes.new ≡ sets bytes.old at (bytes_of 8 x) }
-{
-    put_four(bytes, at, x);
-    put_four(bytes, at + 4, x >> 32);
+    bytes[at..at + 4].copy_from_slice(&x.to_le_bytes()[..4]);
 }

@@ -2,37 +2,29 @@
 ghost use Rattle.std.specs.Prelude.{◌≡◌, ◌+◌, ◌*◌, ◌<◌, ◌≤◌, T, length};
 ghost use Rattle.words.specs.Working.Network.{upper, lower, masked, Swapped, Crossed, Turned};
 
-#[derive(Clone, Copy)]
-struct Pair {
-    x: u64,
-    y: u64,
-}
-
 // Bit j + c of x and bit c of y change places, for each c that m names.
-fn exchange(x: u64, y: u64, j: usize, m: u64) -> Pair
+fn exchange(x: u64, y: u64, j: usize, m: u64) -> (u64, u64)
     requires { j < 64 }
-    ensures { (result.x ≡ upper j m x y) × (result.y ≡ lower j m x y) }
+    ensures { (result.0 ≡ upper j m x y) × (result.1 ≡ lower j m x y) }
 {
     let t = ((x >> j) ^ y) & m;
-    Pair {
-        x: x ^ (t << j),
-        y: y ^ t,
-    }
+    (x ^ (t << j), y ^ t)
 }
+
+// That there are 64 numbers is asked, and no type says it: they are half of a grid's array, which is lent as a slice, and as an array
+// of 64 it would be had only through an Option.
 
 // A block of 2 j rows from g on: each row of the upper half exchanges bits with the row j below.
 fn swap_block(a: &mut [u64], g: usize, j: usize, m: u64)
     requires { (length a.old ≡ 64) × (g + 2 * j ≤ 64) }
     ensures { Swapped j m g j a.old a.new }
 {
-    let mut i = 0;
-    while i < j {
+    for i in 0..j {
         let h = g + i;
         let l = g + (j + i);
-        let e = exchange(a[h], a[l], j, m);
-        a[h] = e.x;
-        a[l] = e.y;
-        i += 1;
+        let (x, y) = exchange(a[h], a[l], j, m);
+        a[h] = x;
+        a[l] = y;
     }
 }
 
@@ -41,12 +33,8 @@ fn stage(a: &mut [u64], k: usize, j: usize, m: u64)
     requires { (length a.old ≡ 64) × (k * (2 * j) ≡ 64) × T (masked k j m) }
     ensures { Crossed k j a.old a.new }
 {
-    let mut g = 0;
-    let mut q = 0;
-    while q < k {
-        swap_block(a, g, j, m);
-        g += 2 * j;
-        q += 1;
+    for q in 0..k {
+        swap_block(a, q * (2 * j), j, m);
     }
 }
 

@@ -7,9 +7,9 @@ pub mod sums; // sums of words and of table entries, by exclusive or
 ghost use Rattle.std.specs.Prelude.{◌≡◌, cond, ◌≢◌, ◌+◌, ◌-◌, ◌*◌, ◌<◌, ◌≤◌, ◌/◌, ◌%◌, ◌^◌, eqb};
 ghost use Rattle.std.specs.Int.Bits.{bit_and, bit_or, bit_xor};
 ghost use Rattle.std.specs.Int.Count.{ones, count_trailing_zeros};
-ghost use Rattle.words.specs.Working.Word.{value, lent_value, width};
+ghost use Rattle.words.specs.Working.Word.{value, width};
 
-#[derive(Clone, Copy)]
+#[derive(Clone, Copy, PartialEq, Eq, Debug)]
 pub struct Word {
     low: u64,
     high: u64,
@@ -29,10 +29,12 @@ pub fn of_numbers(low: u64, high: u64) -> Word
 }
 
 // The word whose cells are the binary digits of a number.
-pub fn of_number(number: u64) -> Word
-    ensures { value result ≡ number }
-{
-    of_numbers(number, 0)
+impl From<u64> for Word {
+    ghost from_gives = { λ number word. value word ≡ number };
+
+    fn from(number: u64) -> Word {
+        of_numbers(number, 0)
+    }
 }
 
 // The lowest 64 digits of the number that a word stands for.
@@ -49,29 +51,9 @@ fn high_of(a: Word) -> u64
     a.high
 }
 
-// ---- a word that is lent
-
-// A word laid down as an array. In the Rattle that this was written for a struct can't be lent, and one that is handed by value to a
-// function that is not compiled into its caller is copied whole, which waits until both of its numbers are stored; what is lent here
-// is read number by number.
-pub type LentWord = [u64; 2];
-
-pub fn to_lend(word: Word) -> LentWord
-    ensures { lent_value result ≡ value word }
-{
-    let low = word.low;
-    let high = word.high;
-    [low, high]
-}
-
-// And taken up again.
-pub fn lent_word(lent: &LentWord) -> Word
-    ensures { value result ≡ lent_value lent.now }
-{
-    of_numbers(lent[0], lent[1])
-}
-
 // ---- all cells at once
+
+// Three like functions, for one over the operator would have to be told its law at each call.
 
 pub fn xor_words(a: Word, b: Word) -> Word
     ensures { value result ≡ bit_xor (value a) (value b) }
@@ -132,13 +114,10 @@ pub fn is_zero(a: Word) -> bool
     (a.low == 0) & (a.high == 0)
 }
 
-pub fn same_word(a: Word, b: Word) -> bool
-    ensures { result ≡ eqb (value a) (value b) }
-{
-    (a.low == b.low) & (a.high == b.high)
-}
-
 // ---- one cell
+
+// That a word has room for cell k is asked, and no type keeps it: most callers count cells up to a size, and would make such a number
+// anew for each.
 
 // The number that has cell k, as its bit k % 64.
 fn half_at(a: Word, k: u32) -> u64

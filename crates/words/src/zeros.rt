@@ -1,16 +1,16 @@
 // Words that are 0.
 ghost use Rattle.std.specs.Prelude.{◌≡◌, eqb, length, get_or};
 ghost use Rattle.laws.specs.Tests.{every};
+ghost use Rattle.words.specs.Working.Quarters.{Small};
 
-// Are all words 0?
+// Are all words 0? That they fit the machine's is known of a slice that is read, and not of what one held that has been written.
 pub fn all_zero(words: &[u64]) -> bool
-    ensures { result ≡ every (λ i. eqb (get_or words.now i 0) 0) (length words.now) }
+    ensures fits { Small words.now }
+    ensures zero { result ≡ every (λ i. eqb (get_or words.now i 0) 0) (length words.now) }
 {
     let mut any: u64 = 0;
-    let mut i = 0;
-    while i < words.len() {
-        any = any | words[i];
-        i += 1;
+    for word in words {
+        any |= *word;
     }
     any == 0
 }

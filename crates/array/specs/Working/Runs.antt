@@ -8,6 +8,7 @@ use Rattle.line.specs.Cells.{IsWord, erasures as erasures_in}
 use Rattle.line.specs.Codeword.{is_codeword}
 use Rattle.array.specs.declared.report.Report.{Report}
 use Rattle.array.specs.Arrays.{line, transpose, column}
+use Rattle.array.specs.declared.packing.PackedRows.{PackedRows}
 use Rattle.array.specs.Working.PackedRows.{Held}
 use Rattle.array.specs.Plain.{plain, plain_count, closed as closed_in}
 
@@ -16,7 +17,7 @@ abbrev pub IsFull : Degree → List ℕ → Type 0
 IsFull d m = IsWord (size d * size d) m
 
 -- what iterations start from: the array m at hand, and the received one r by rows and by columns, each by its packed rows
-pub record Started (n : ℕ) (m r rows row_channel column_channel : List ℕ) : Type 0 where
+pub record Started (n : ℕ) (m r : List ℕ) (rows row_channel column_channel : PackedRows) : Type 0 where
   pub held : Held n m rows
   pub across : Held n r row_channel
   pub down : Held n (transpose n n r) column_channel

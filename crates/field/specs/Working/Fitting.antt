@@ -1,6 +1,6 @@
 -- When positions fit two check sums. The search for them and the laws on it are put in these words; what `locate` promises is
 -- `located`, and nothing here has to be believed to read it.
-use Rattle.std.specs.Prelude.{◌≡◌, ◌⊎◌, ℕ, ◌*◌, ◌<◌, ◌≤◌}
+use Rattle.std.specs.Prelude.{◌≡◌, ◌⊎◌, Option, None, Some, ℕ, ◌*◌, ◌<◌}
 use Rattle.degree.specs.declared.Degree.{Degree}
 use Rattle.field.specs.declared.locate.Positions.{Positions}
 use Rattle.field.specs.declared.locate.Positions.TheVariants.{Zero, One, Two, Unfit}
@@ -21,7 +21,7 @@ pub record Fits (d : Degree) (s1 s3 : ℕ) (p : Positions) : Type 0 where
   pub sum1 : total (λ i. power d i) p ≡ s1
   pub sum3 : total (λ i. power d (3 * i)) p ≡ s3
 
--- r is the other of two positions that fit, one of them i; or r is no entry of a table, and none that fit have i as the lower one
-pub record Second (d : Degree) (s1 s3 i r : ℕ) : Type 0 where
-  pub fits : r < 65536 → Fits d s1 s3 (Two i r) ⊎ Fits d s1 s3 (Two r i)
-  pub none : 65536 ≤ r → (j : ℕ) → ¬ (Fits d s1 s3 (Two i j))
+-- r are two positions that fit, one of them i, in either order; or none that fit have i as the lower one
+abbrev pub Paired : Degree → (s1 s3 i : ℕ) → Option Positions → Type 0
+Paired d s1 s3 i (Some p) = (j : ℕ) × (p ≡ Two i j) × (Fits d s1 s3 (Two i j) ⊎ Fits d s1 s3 (Two j i))
+Paired d s1 s3 i None = (j : ℕ) → ¬ (Fits d s1 s3 (Two i j))

@@ -1,13 +1,12 @@
--- What the tables of a degree hold. They are made once and lent; the functions that read them ask for `Tables` by name, and
--- nothing here has to be believed to read their results.
+-- What the tables of a degree hold. They are made once and lent; `FieldTables` keeps this, and nothing here has to be believed to read
+-- what its functions answer.
 use Rattle.std.specs.Prelude.{◌≡◌, List, ℕ, ◌+◌, ◌*◌, ◌<◌, length, get_or}
 use Rattle.laws.specs.Working.Digits.{up_to}
 use Rattle.degree.specs.declared.Degree.{Degree}
-use Rattle.degree.specs.declared.Degree.TheVariants.{Four, Six, Seven}
 use Rattle.degree.specs.Degree.{size, order}
 use Rattle.words.specs.Working.Sums.{ByteSums}
 use Rattle.field.specs.Field.{power}
-use Rattle.field.specs.Working.Places.{Places}
+use Rattle.field.specs.declared.tables.FieldEntries.{FieldEntries}
 
 -- the fixed table of powers
 pub record Powers (d : Degree) (ps : List ℕ) : Type 0 where
@@ -24,28 +23,22 @@ weight d i =
 abbrev pub Weights : Degree → List ℕ → Type 0
 Weights d t = (i : ℕ) → i < 128 → get_or t i 0 ≡ weight d i
 
--- entry 128 + α^i: the number i
+-- entry α^i: the number i
 abbrev pub Logs : Degree → List ℕ → Type 0
-Logs d t = (i : ℕ) → i < order d → get_or t (128 + power d i) 0 ≡ i
+Logs d t = (i : ℕ) → i < order d → get_or t (power d i) 0 ≡ i
 
--- entry 256 + 256 j + x, for j below 16: the weights of the cells 8 j + i, summed over the bits i of x
+-- entry 256 j + x, for j below 16: the weights of the cells 8 j + i, summed over the bits i of x
 abbrev pub Sums : Degree → List ℕ → Type 0
-Sums d t = ByteSums (λ i. weight d i) 256 16 t
+Sums d t = ByteSums (λ i. weight d i) 0 16 t
 
--- the table of places, from entry 4352 on: at degree 6 alone
-abbrev pub Placed : Degree → List ℕ → Type 0
-Placed Four t = Unit {0}
-Placed Six t = Places Six 4352 t
-Placed Seven t = Unit {0}
+-- entries that are 0; of the logarithms each that is read is put
+pub record Empty (e : FieldEntries) : Type 0 where
+  pub weights : (i : ℕ) → get_or e.weights i 0 ≡ 0
+  pub sums : (i : ℕ) → get_or e.sums i 0 ≡ 0
 
 -- what is made of the powers, and at the end their number
-pub record Filled (d : Degree) (t : List ℕ) : Type 0 where
-  pub weights : Weights d t
-  pub logs : Logs d t
-  pub sums : Sums d t
-  pub powers : get_or t 8448 0 ≡ order d
-
-pub record Tables (d : Degree) (t : List ℕ) : Type 0 where
-  pub long : length t ≡ 8449
-  pub filled : Filled d t
-  pub places : Placed d t
+pub record Filled (d : Degree) (e : FieldEntries) : Type 0 where
+  pub weights : Weights d e.weights
+  pub logs : Logs d e.logs
+  pub sums : Sums d e.sums
+  pub last : e.last ≡ order d

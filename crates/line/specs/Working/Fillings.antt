@@ -1,12 +1,13 @@
 -- What the parts of a line's work stand for: fillings, and what they say at a cell. The contracts between the functions of this
 -- crate are put in these words; nothing here has to be believed to read a contract of an entry.
-use Rattle.std.specs.Prelude.{◌≡◌, Bool, true, cond, not, ◌&&◌, ◌||◌, List, ℕ, ◌-◌, ◌^◌, ◌<◌, eqb, ltb}
+use Rattle.std.specs.Prelude.{◌≡◌, Bool, true, cond, not, ◌||◌, List, ℕ, ◌-◌, ◌^◌, ◌<◌, eqb, ltb, Option, Some}
 use Rattle.laws.specs.Working.Bits.{bit_at}
 use Rattle.degree.specs.declared.Degree.{Degree}
 use Rattle.degree.specs.Degree.{size}
 use Rattle.line.specs.declared.side.Side.{Side}
 use Rattle.line.specs.declared.side.Side.TheVariants as side
-use Rattle.line.specs.declared.bounded.Tried.{Tried}
+use Rattle.line.specs.declared.bounded.Correction.{Correction}
+use Rattle.words.specs.declared.word.Word.{Word}
 use Rattle.line.specs.declared.clause.Both.{Both}
 use Rattle.line.specs.declared.clause.Trial.{Trial}
 use Rattle.line.specs.declared.clause.Seen.{Seen}
@@ -40,6 +41,7 @@ module _ (d : Degree) (ys rs : List ℕ) (f : ℕ) where
 
   -- what is known of a line before its cells are settled; of its fillings only where it has few erasures
   pub record Based (b : Base) : Type 0 where
+    pub degree : b.tables.now.degree ≡ d
     pub incoming : Packs (size d) ys b.incoming
     pub channel : Packs (size d) rs b.channel
     pub filling : value b.filling ≡ f
@@ -56,10 +58,10 @@ module _ (d : Degree) (ys rs : List ℕ) (f : ℕ) where
 
 -- a codeword that was found stays in reach at cell k: it lies nearer than the radius, or the filled bit is unchanged, or the change does
 -- not lead away from it
-abbrev pub stays : Trial → ℕ → Bool
-stays h k =
+abbrev pub stays : Trial → Correction → ℕ → Bool
+stays h found k =
     let before = bit_at (value h.before) k in
-    ltb h.tried.changed radius || (eqb before (bit_at (value h.channel) k) || not (eqb (bit_at (value h.tried.word) k) before))
+    ltb found.changed radius || (eqb before (bit_at (value h.channel) k) || not (eqb (bit_at (value found.word) k) before))
 
 -- both fillings of a line tried, where it has few erasures, and counted
 pub record BothOf (d : Degree) (ys : List ℕ) (f : ℕ) (t : Both) : Type 0 where
@@ -67,15 +69,19 @@ pub record BothOf (d : Degree) (ys : List ℕ) (f : ℕ) (t : Both) : Type 0 whe
   pub two : few ys ≡ true → Decodes d (filled side.Two ys f) t.two
   pub count : t.count ≡ cond (few ys) 2 0
 
--- both fillings decoded to one codeword
-abbrev pub one_codeword : Tried → Tried → Bool
-one_codeword one two = (one.found && two.found) && eqb (value one.word) (value two.word)
-
--- both fillings decoded to one codeword nearer than the radius, and one erasure more is not too many
-abbrev pub quiet : (erased : ℕ) → Both → Bool
-quiet erased t = (ltb erased (designed_distance - 1) && (ltb t.one.changed radius && ltb t.two.changed radius)) && one_codeword t.one t.two
+-- both fillings decoded to one codeword, which lies nearer than the radius to both, and one erasure more is not too many
+pub record Quiet (erased : ℕ) (t : Both) (w : Word) : Type 0 where
+  pub one : Correction
+  pub two : Correction
+  pub first : t.one ≡ Some one
+  pub second : t.two ≡ Some two
+  pub room : erased < designed_distance - 1
+  pub near_one : one.changed < radius
+  pub near_two : two.changed < radius
+  pub same : value one.word ≡ value two.word
+  pub is : w ≡ one.word
 
 -- the answer of a filling
-abbrev pub tried_of : Base → Side → Tried
+abbrev pub tried_of : Base → Side → Option Correction
 tried_of b side.One = b.one.tried
 tried_of b side.Two = b.two.tried

@@ -1,11 +1,11 @@
 -- What the parts of bounded-distance decoding stand for. The contracts between the functions of this crate are put in these
 -- words; nothing here has to be believed to read a contract of an entry.
-use Rattle.std.specs.Prelude.{◌≡◌, Bool, true, false, List, ℕ}
+use Rattle.std.specs.Prelude.{◌≡◌, Bool, true, false, List, ℕ, Option, None, Some, IfSome}
 use Rattle.degree.specs.declared.Degree.{Degree}
 use Rattle.field.specs.declared.locate.Positions.{Positions}
 use Rattle.field.specs.declared.locate.Positions.TheVariants.{Zero, One, Two, Unfit}
 use Rattle.degree.specs.Degree.{size, order}
-use Rattle.line.specs.declared.bounded.Tried.{Tried}
+use Rattle.line.specs.declared.bounded.Correction.{Correction}
 use Rattle.line.specs.Bounded.{Answer, Found, Failed, bounded, changed}
 use Rattle.line.specs.Cells.{flip}
 use Rattle.line.specs.Working.Packed.{PacksWord}
@@ -33,16 +33,16 @@ changes (Two i j) false = 0
 changes Unfit even = 0
 
 -- what was tried gave this answer
-pub data Answers (n : ℕ) : Answer → Tried → Type 0 where
-  failed : {t : Tried} → t.found ≡ false → Answers n Failed t
-  found : {c : List ℕ} {t : Tried} → t.found ≡ true → PacksWord n c (value t.word) → Answers n (Found c) t
+pub data Answers (n : ℕ) : Answer → Option Correction → Type 0 where
+  failed : Answers n Failed None
+  found : {c : List ℕ} {m : Correction} → PacksWord n c (value m.word) → Answers n (Found c) (Some m)
 
 -- what was tried gave what the positions and the parity say, and where something was found, so many cells were changed
-pub record Mends (d : Degree) (ws : List ℕ) (p : Positions) (even : Bool) (t : Tried) : Type 0 where
+pub record Mends (d : Degree) (ws : List ℕ) (p : Positions) (even : Bool) (t : Option Correction) : Type 0 where
   pub answer : Answers (size d) (mended d ws p even) t
-  pub changed : t.found ≡ true → t.changed ≡ changes p even
+  pub changed : IfSome t (λ m. m.changed ≡ changes p even)
 
 -- what was tried gave what bounded-distance decoding of a word gives, and where something was found, so many cells were changed
-pub record Decodes (d : Degree) (ws : List ℕ) (t : Tried) : Type 0 where
+pub record Decodes (d : Degree) (ws : List ℕ) (t : Option Correction) : Type 0 where
   pub answer : Answers (size d) (bounded d ws) t
-  pub changed : t.found ≡ true → t.changed ≡ changed ws (bounded d ws)
+  pub changed : IfSome t (λ m. m.changed ≡ changed ws (bounded d ws))

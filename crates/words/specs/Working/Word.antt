@@ -1,6 +1,6 @@
 -- The number that a packed word stands for: bit i of it is cell i. Only this file, the file on grids and the code's `word` with the
 -- modules below it know that the machine holds it in two numbers of 64 bits, the low one first.
-use Rattle.std.specs.Prelude.{List, ℕ, ◌+◌, ◌*◌, ◌^◌, get_or}
+use Rattle.std.specs.Prelude.{ℕ, ◌+◌, ◌*◌, ◌^◌}
 use Rattle.words.specs.declared.word.Word.{Word}
 
 -- the cells that a word has room for
@@ -9,10 +9,6 @@ width = 128
 
 unfoldable pub value : Word → ℕ
 value w = w.high * 2 ^ 64 + w.low
-
--- the same of a word that is lent, as an array
-unfoldable pub lent_value : List ℕ → ℕ
-lent_value l = get_or l 1 0 * 2 ^ 64 + get_or l 0 0
 
 -- the word with no cell set
 abbrev pub no_cells : Word

@@ -4,38 +4,25 @@ ghost use Rattle.std.specs.Prelude.{◌≡◌, ◌⊎◌, ℕ, ◌<◌, ◌≤�
 ghost use Rattle.words.specs.Working.Pairs.{bits_of, pairs_of};
 ghost use Rattle.words.specs.Working.Word.{value, width};
 
-use crate::bytes::{eight, gather, put_eight, spread};
+use crate::bytes::{gather, spread};
 use crate::word::{Word, high_of, low_of, of_numbers};
-
-#[derive(Clone, Copy)]
-pub struct WordPair {
-    pub first: Word,
-    pub second: Word,
-}
 
 // ---- at most 64 bytes, whose bits fit two numbers
 
-#[derive(Clone, Copy)]
-struct NumberPair {
-    first: u64,
-    second: u64,
-}
-
 // The two lowest bits of each byte.
-fn gather_part(bytes: &[u8]) -> NumberPair
+fn gather_part(bytes: &[u8]) -> (u64, u64)
     requires { (length bytes.now ≤ 64) × (length bytes.now % 8 ≡ 0) × ((i : ℕ) → get_or bytes.now i 0 < 256) }
-    ensures { (result.first ≡ bits_of 0 bytes.now) × (result.second ≡ bits_of 1 bytes.now) }
+    ensures { (result.0 ≡ bits_of 0 bytes.now) × (result.1 ≡ bits_of 1 bytes.now) }
 {
     let mut first: u64 = 0;
     let mut second: u64 = 0;
-    let mut at = 0;
-    while at < bytes.len() {
-        let x = eight(bytes, at);
-        first = first | (gather(x) << at);
-        second = second | (gather(x >> 1) << at);
-        at += 8;
+    let (eights, _) = bytes.as_chunks::<8>();
+    for (i, eight) in eights.iter().enumerate() {
+        let x = u64::from_le_bytes(*eight);
+        first |= gather(x) << (8 * i);
+        second |= gather(x >> 1) << (8 * i);
     }
-    NumberPair { first, second }
+    (first, second)
 }
 
 // And back: all bytes are written.
@@ -45,12 +32,11 @@ fn spread_part(first: u64, second: u64, bytes: &mut [u8])
 {
     let mut a = first;
     let mut b = second;
-    let mut at = 0;
-    while at < bytes.len() {
-        put_eight(bytes, at, spread(a % 256) + 2 * spread(b % 256));
-        a = a / 256;
-        b = b / 256;
-        at += 8;
+    for i in 0..bytes.len() / 8 {
+        let x = spread(a % 256) + 2 * spread(b % 256);
+        bytes[8 * i..8 * i + 8].copy_from_slice(&x.to_le_bytes());
+        a /= 256;
+        b /= 256;
     }
 }
 
@@ -64,17 +50,17 @@ fn cut_of(long: usize) -> usize
 }
 
 // The two lowest bits of each byte.
-pub fn gather_pair(bytes: &[u8]) -> WordPair
+pub fn gather_pair(bytes: &[u8]) -> (Word, Word)
     requires { (length bytes.now ≤ width) × (length bytes.now % 8 ≡ 0) × ((i : ℕ) → get_or bytes.now i 0 < 256) }
-    ensures { (value result.first ≡ bits_of 0 bytes.now) × (value result.second ≡ bits_of 1 bytes.now) }
+    ensures { (value result.0 ≡ bits_of 0 bytes.now) × (value result.1 ≡ bits_of 1 bytes.now) }
 {
     let cut = cut_of(bytes.len());
-    let low = gather_part(&bytes[..cut]);
-    let high = gather_part(&bytes[cut..]);
-    WordPair {
-        first: of_numbers(low.first, high.first),
-        second: of_numbers(low.second, high.second),
-    }
+    let (low_first, low_second) = gather_part(&bytes[..cut]);
+    let (high_first, high_second) = gather_part(&bytes[cut..]);
+    (
+        of_numbers(low_first, high_first),
+        of_numbers(low_second, high_second),
+    )
 }
 
 // And back: all bytes are written.

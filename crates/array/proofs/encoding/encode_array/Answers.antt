@@ -6,5 +6,7 @@ use Rattle.array.proofs.encoding.encode_array.Goals as goal
 
 pub returns : goal.returns
 returns c =
-    c.write_rows.ensures
-    ∙ by_units c.args.d _ _ _ _ _ c.put_unit_table.ensures c.requires.0 c.encode_rows.ensures c.size_of-n.ensures c.message_cells-k.ensures
+    let units = c.new-units in
+    let made = rw units.ensures at units.result.made in
+    let rows = rw units.ensures at c.encode_rows.ensures in
+    c.write_rows.ensures ∙ by_units c.args.d _ _ _ _ _ made c.requires.0 rows c.size_of-n.ensures c.message_cells-k.ensures

@@ -5,4 +5,4 @@ use Rattle.array.proofs.encoding.encode_rows.Goals as goal
 
 pub loop-a-preserved : goal.loop-a-preserved
 loop-a-preserved c =
-    rw c.put_word.ensures (encoding_next c.loop-a.invariant c.loop-a-test.true c.requires.2 _ c.encoded_word-word.ensures)
+    encoding_next c.loop-a.invariant c.loop-a-test.true _ c.put.ensures c.encoded_word-word.ensures

@@ -24,4 +24,4 @@ loop-i-preserved c =
     lining_put w h _ (c.spread_pair.ensures ∙ written (lining_part w h) c.chosen_sum-word.ensures c.zero_word.ensures)
 
 pub returns : goal.returns
-returns c = lining_all c.loop-i.invariant c.requires.3 c.loop-i-test.false
+returns c = lining_all c.loop-i.invariant c.requires.3 (omega arith)

@@ -1,27 +1,23 @@
--- `array::entry::decode` meets its contract: a call that is taken is answered by `decode_taken`, one that is refused leaves all as it came.
+-- `array::entry::decode` meets its contract: a call that is taken is answered by `decode_array`, one that is refused leaves all as it came.
 -- Assumes nothing.
+use Rattle.std.proofs.lemmas.Result.{err_from_is_err_and}
 use Rattle.array.proofs.Refusing.{decode_takes}
 use Rattle.array.proofs.DecodeLaws.{done_taken, done_refused}
-use Rattle.laws.proofs.Lists.{zeros_at}
 use Rattle.array.proofs.entry.decode.Goals as goal
 
-pub put_line_tables-requires : goal.put_line_tables-requires
-put_line_tables-requires c = zeros_at 8449
-
-pub decode_taken-report-requires : goal.decode_taken-report-requires
-decode_taken-report-requires c =
+pub decode_array-requires : goal.decode_array-requires
+decode_array-requires c =
     let s = c.args in
-    let h = decode_takes s.degree s.iterations s.received.now s.filling.now s.cells.now c.in-Taken.d (rw c.in-Taken.is at c.decode_test-call.ensures) in
-    (h.0, h.1, h.2, h.3, c.put_line_tables.ensures)
+    let h = decode_takes s.degree s.iterations s.received.now s.filling.now s.cells.now c.in_ok-d.d c.in_ok-d.ensures in
+    (h.0, h.1, h.2, h.3)
 
-pub returns-in-Taken : goal.returns-in-Taken
-returns-in-Taken c =
+pub returns : goal.returns
+returns c =
     let s = c.args in
-    done_taken s.degree s.iterations s.received.now s.filling.now s.cells.now
-    (rw c.in-Taken.is at c.decode_test-call.ensures) c.decode_taken-report.ensures
+    done_taken s.degree s.iterations s.received.now s.filling.now s.cells.now c.in_ok-d.ensures c.decode_array.ensures
 
-pub returns-in-Refused : goal.returns-in-Refused
-returns-in-Refused c =
+pub returns-in_err-d : goal.returns-in_err-d
+returns-in_err-d c =
     let s = c.args in
-    done_refused s.degree s.iterations s.received.now s.filling.now s.cells.now c.in-Refused.why
-    (rw c.in-Refused.is at c.decode_test-call.ensures)
+    let p = err_from_is_err_and c.from_residual.result c.from_residual.ensures.1 in
+    rw (p.1, p.2) (done_refused s.degree s.iterations s.received.now s.filling.now s.cells.now _ c.in_err-d.ensures)

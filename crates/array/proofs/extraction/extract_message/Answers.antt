@@ -1,5 +1,6 @@
 -- `extraction::extract_message` meets its contract. The loop's invariant: the first i message rows are copied.
 -- Assumes nothing.
+use native.Mathlib.Omega.{arith}
 use Prim.Native.Nat.{◌*◌}
 use mathlib.Core.Path.{sym, ap₂, ◌∙◌}
 use Rattle.array.specs.Encoding.{extracted}
@@ -16,11 +17,11 @@ loop-i-init c =
 
 pub loop-i-preserved : goal.loop-i-preserved
 loop-i-preserved c =
-    taking_next c.loop-i.invariant c.loop-i-test.true _ c.copy_cells.ensures
+    taking_next c.loop-i.invariant c.loop-i-test.true _ c.copy_from_slice.ensures.after
 
 pub returns : goal.returns
 unfolding extracted
 returns c =
     let k = c.message_cells-k.ensures in
-    taking_end c.loop-i.invariant (c.requires.1 ∙ ap₂ ◌*◌ (sym k) (sym k)) c.loop-i-test.false
+    taking_end c.loop-i.invariant (c.requires.1 ∙ ap₂ ◌*◌ (sym k) (sym k)) (omega arith)
     ∙ rw (c.size_of-n.ensures, k, c.check_cells-p.ensures)

@@ -1,11 +1,7 @@
 -- `extraction::extract_message` meets its contract. The loop's invariant: the first i message rows are copied.
 -- Assumes nothing.
-use Prim.Native.Nat.{◌-◌}
 use Rattle.array.proofs.Loops.{Taking}
 use Rattle.array.proofs.extraction.extract_message.Given as goal
 
 abbrev pub invariant-loop-i : goal.invariant-loop-i
-invariant-loop-i l = Taking l.n l.k l.p l.cells l.initial.message l.message l.i l.from l.to
-
-abbrev pub decreases-loop-i : goal.decreases-loop-i
-decreases-loop-i l = l.k - l.i
+invariant-loop-i l = Taking l.n l.k l.p l.cells l.initial.message l.message l.i

@@ -7,4 +7,4 @@ use Rattle.array.proofs.halves.column_half.Goals as goal
 pub returns : goal.returns
 returns c =
     let args = c.args in
-    columns_done args.d (fillings args.filling.now) c.transpose_rows.ensures c.send_columns-count.ensures c.transpose_rows-2.ensures c.write_rows.ensures
+    columns_done args.tables.now.degree (fillings args.filling.now) c.transpose.ensures c.send_columns-count.ensures c.transpose-2.ensures c.write_rows.ensures

@@ -6,4 +6,4 @@ use Rattle.array.proofs.iterations.iterate.Goals as goal
 pub returns : goal.returns
 returns c =
     let args = c.args in
-    iteration_done args.d args.filling.now c.size_of-n.ensures c.row_half-a.ensures c.column_half-b.ensures
+    iteration_done args.tables.now.degree args.filling.now c.size_of-n.ensures c.row_half-a.ensures c.column_half-b.ensures

@@ -6,7 +6,7 @@ use Rattle.array.proofs.report.report_of.Goals as goal
 
 pub returns-then-left-eq0 : goal.returns-then-left-eq0
 returns-then-left-eq0 c =
-    told_full c.args.d c.count_erased-left.ensures c.if-left-eq0.true c.transpose_rows.ensures c.all_codewords-all.ensures
+    told_full c.args.tables.now.degree c.count_erased-left.ensures c.if-left-eq0.true c.transpose.ensures c.all_codewords-all.ensures
 
 pub returns-else-left-eq0 : goal.returns-else-left-eq0
-returns-else-left-eq0 c = told_open c.args.d c.count_erased-left.ensures c.if-left-eq0.false
+returns-else-left-eq0 c = told_open c.args.tables.now.degree c.count_erased-left.ensures c.if-left-eq0.false

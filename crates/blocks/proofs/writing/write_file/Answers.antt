@@ -15,4 +15,4 @@ loop-block-preserved c =
 
 pub returns : goal.returns
 unfolding file_of
-returns c = lining_all c.loop-block.invariant c.requires.1 c.loop-block-test.false
+returns c = lining_all c.loop-block.invariant c.requires.1 (omega arith)

@@ -1,12 +1,8 @@
 -- `writing::write_file` meets its contract. The loop's invariant: the first blocks are written, all behind them is as it was.
 -- Assumes nothing.
-use Prim.Native.Nat.{◌-◌}
 use Rattle.array.proofs.WrittenLines.{Lining}
 use Rattle.blocks.specs.Blocks.{block_of}
 use Rattle.blocks.proofs.writing.write_file.Given as goal
 
 abbrev pub invariant-loop-block : goal.invariant-loop-block
-invariant-loop-block l = Lining 512 (λ b. block_of b l.number l.cells) 3 0 l.initial.file l.file l.block l.at
-
-abbrev pub decreases-loop-block : goal.decreases-loop-block
-decreases-loop-block l = 3 - l.block
+invariant-loop-block l = Lining 512 (λ b. block_of b l.number l.cells) 3 l.initial.file l.file l.block

@@ -1,23 +1,18 @@
 -- `line::bounded::counted` meets its contract: one decoding by the steps of `bounded_word`, and one is added.
 -- Assumes nothing.
 use mathlib.Core.Path.{refl}
-use Prim.Native.Nat.{◌/◌, ◌%◌}
 use native.Mathlib.Omega.{arith}
 use lib.Dec.{eqb}
 use Rattle.line.proofs.RowLaws.{word_place}
 use Rattle.line.proofs.Tries.{place_below, tried_bounded}
 use Rattle.line.proofs.bounded.counted.Goals as goal
 
-pub mended-tried-requires : goal.mended-tried-requires
-mended-tried-requires c =
-    let w = c.word_place-place in
-    let a = c.args in
-    let p = w.ensures.parity in
-    (omega (arith, p), place_below a.d _ _ (w.result % 65536) (eqb (w.result / 65536) 0) w.ensures.fits, c.last_cell-last.ensures)
+pub mended-value-requires : goal.mended-value-requires
+mended-value-requires c =
+    let r = c.word_place.result in
+    let w = c.word_place.ensures in
+    (omega (arith, w.parity), place_below c.args.tables.now.degree _ _ r.entry (eqb r.parity 0) w.fits)
 
 pub returns : goal.returns
 returns c =
-    let a = c.args in
-    let w = c.word_place-place in
-    let n = c.to_lend-lent.ensures in
-    (refl, λ ws p. tried_bounded a.d w.result {t = c.mended-tried.result} p (word_place p (rw n at w.ensures)) (c.mended-tried.ensures ws p))
+    (refl, λ ws p. tried_bounded c.args.tables.now.degree c.word_place.result {t = c.mended-value.result} p (word_place p c.word_place.ensures) (c.mended-value.ensures ws p))

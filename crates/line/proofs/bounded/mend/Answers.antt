@@ -1,32 +1,37 @@
 -- `line::bounded::mend` meets its contract: three flips, each made or not, by the number of positions and the parity.
 -- Assumes nothing.
 use mathlib.Core.Path.{refl, ap, ap₂, ◌∙◌}
-use Prim.Native.Nat.{◌+◌, ◌/◌, ◌%◌}
+use Prim.Native.Nat.{◌/◌, ◌%◌}
 use native.Mathlib.Omega.{arith}
-use borrow.Author.Tests.{leb-true}
 use lib.Bits.{bit_xor}
 use Rattle.degree.specs.Degree.{size}
 use Rattle.field.specs.Working.Places.{positions_of}
 use Rattle.words.specs.Working.Word.{value}
 use Rattle.line.proofs.Packing.{flips_packed}
-use Rattle.line.proofs.Tries.{last_below, answer_by, first_below, second_below}
+use Rattle.line.proofs.Tries.{last_below, some_mends, none_mends, first_below, second_below}
 use Rattle.line.proofs.bounded.mend.Goals as goal
 
-pub returns : goal.returns
-returns c =
+pub returns-then-changed-le-RADIUS : goal.returns-then-changed-le-RADIUS
+returns-then-changed-le-RADIUS c =
     let a = c.args in
-    let n = size a.d in
+    let d = a.tables.now.degree in
+    let n = size d in
     let low = c.single-low.ensures in
     let high = c.single-high.ensures in
-    let end = rw c.requires.3 at c.single-end.ensures in
+    let end = rw c.order.ensures at c.single-end.ensures in
     let joined = c.xor_words-flips.ensures ∙ ap₂ bit_xor low (c.xor_words.ensures ∙ ap₂ bit_xor high end) in
-    let number = a.place / 16384 in
+    let number = a.place.entry / 16384 in
+    let few = c.if-changed-le-RADIUS.true in
+    let below = c.requires.1 in
     λ ws p.
-    answer_by a.d ws number a.parity _ _ (omega arith) c.requires.1 refl refl
-    (λ found.
-    let few = leb-true (number + (number + a.parity) % 2) 2 found in
-    flips_packed (a.place % 128) (a.place / 128 % 128) _ (omega arith) (omega arith) (omega arith)
-    (c.xor_words-2.ensures ∙ ap (bit_xor (value a.word)) joined) p (λ _. last_below a.d)
-    (second_below n a.place a.parity c.requires.1 few c.requires.2)
-    (first_below n a.place a.parity c.requires.1 few c.requires.2))
-    (positions_of a.place) refl
+    some_mends d ws _ _ number a.place.parity c.requires.0 few refl
+    (flips_packed (a.place.entry % 128) (a.place.entry / 128 % 128) _ (omega arith) (omega arith) (omega arith)
+    (c.xor_words-word.ensures ∙ ap (bit_xor (value a.word)) joined) p (λ _. last_below d)
+    (second_below n a.place.entry a.place.parity c.requires.0 few below)
+    (first_below n a.place.entry a.place.parity c.requires.0 few below))
+    (positions_of a.place.entry) refl
+
+pub returns-else-changed-le-RADIUS : goal.returns-else-changed-le-RADIUS
+returns-else-changed-le-RADIUS c =
+    let a = c.args in
+    λ ws p. none_mends a.tables.now.degree ws _ _ (a.place.entry / 16384) a.place.parity c.requires.0 c.if-changed-le-RADIUS.false (positions_of a.place.entry) refl

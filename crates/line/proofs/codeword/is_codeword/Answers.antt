@@ -7,5 +7,5 @@ use Rattle.line.proofs.codeword.is_codeword.Goals as goal
 pub returns : goal.returns
 unfolding is_codeword
 returns c = λ ws p.
-    let s = word_sums p c.syndrome_of-s.ensures in
+    let s = word_sums p c.syndrome-s.ensures in
     rw (s.parity, s.s1, s.s3)

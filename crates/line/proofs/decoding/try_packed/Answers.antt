@@ -15,7 +15,7 @@ returns-then-count_erasures-lt-DISTANCE c = (
       let few = is_few ys _ (c.count_erasures.ensures.1 _ ys h) c.if-count_erasures-lt-DISTANCE.true in
       let one = c.counted-one.ensures.1 _ (c.fill-words.ensures _ ys h One) in
       let two = c.counted-two.ensures.1 _ (c.fill-words.ensures _ ys h Two) in
-      (few_tried c.args.d ys (value c.args.filling) few (c.choose-tried.ensures _ ys _ _ h one.answer two.answer), rw few (omega (arith, c.counted-one.ensures.0, c.counted-two.ensures.0))),
+      (few_tried c.args.tables.now.degree ys (value c.args.filling) few (c.choose.ensures _ ys _ _ h one.answer two.answer), rw few (omega (arith, c.counted-one.ensures.0, c.counted-two.ensures.0))),
 )
 
 pub returns-else-count_erasures-lt-DISTANCE : goal.returns-else-count_erasures-lt-DISTANCE
@@ -23,5 +23,5 @@ returns-else-count_erasures-lt-DISTANCE c = (
   omega arith,
   λ ys h.
       let many = is_many ys _ (c.count_erasures.ensures.1 _ ys h) c.if-count_erasures-lt-DISTANCE.false in
-      (many_tried c.args.d ys (value c.args.filling) many c.nothing_found-tried.ensures, rw many (omega arith)),
+      (many_tried c.args.tables.now.degree ys (value c.args.filling) many, rw many (omega arith)),
 )

@@ -2,6 +2,7 @@
 -- leaves all as it came.
 -- Assumes nothing.
 use mathlib.Core.List.{[]}
+use Rattle.std.proofs.lemmas.Result.{err_from_is_err_and}
 use Rattle.line.specs.Bounded.{bounded}
 use Rattle.line.specs.Refusals.{line_tests}
 use Rattle.line.proofs.EntryLaws.{word_taken, word_refused}
@@ -11,16 +12,15 @@ use Rattle.line.proofs.entry.bounded_distance.Goals as goal
 pub bounded_taken-requires : goal.bounded_taken-requires
 bounded_taken-requires c =
     let s = c.args in
-    line_taken 1 s.degree s.word.now _ (rw c.in-Taken.is at c.line_test-call.ensures)
+    line_taken 1 s.degree s.word.now _ c.in_ok-d.ensures
 
-pub returns-in-Taken : goal.returns-in-Taken
-returns-in-Taken c =
+pub returns : goal.returns
+returns c =
     let s = c.args in
-    word_taken (line_tests 1 s.degree s.word.now []) s.degree (λ d. bounded d s.word.now)
-    (rw c.in-Taken.is at c.line_test-call.ensures) c.bounded_taken.ensures
+    word_taken (line_tests 1 s.degree s.word.now []) s.degree (λ d. bounded d s.word.now) c.in_ok-d.ensures c.bounded_taken.ensures
 
-pub returns-in-Refused : goal.returns-in-Refused
-returns-in-Refused c =
+pub returns-in_err-d : goal.returns-in_err-d
+returns-in_err-d c =
     let s = c.args in
-    word_refused (line_tests 1 s.degree s.word.now []) s.degree (λ d. bounded d s.word.now) _
-    (rw c.in-Refused.is at c.line_test-call.ensures)
+    let p = err_from_is_err_and c.from_residual.result c.from_residual.ensures.1 in
+    rw (p.1, p.2) (word_refused (line_tests 1 s.degree s.word.now []) s.degree (λ d. bounded d s.word.now) _ c.in_err-d.ensures)

@@ -2,6 +2,7 @@
 -- leaves all as it came.
 -- Assumes nothing.
 use mathlib.Core.List.{[]}
+use Rattle.std.proofs.lemmas.Result.{err_from_is_err_and}
 use Rattle.line.specs.Bounded.{bounded}
 use Rattle.line.specs.Cells.{filling_word}
 use Rattle.line.specs.Decoding.{decode}
@@ -13,16 +14,16 @@ use Rattle.line.proofs.entry.decode_line.Goals as goal
 pub decode_taken-requires : goal.decode_taken-requires
 decode_taken-requires c =
     let s = c.args in
-    line_taken 2 s.degree s.cells.now _ (rw c.in-Taken.is at c.line_test-call.ensures)
+    line_taken 2 s.degree s.cells.now _ c.in_ok-d.ensures
 
-pub returns-in-Taken : goal.returns-in-Taken
-returns-in-Taken c =
+pub returns : goal.returns
+returns c =
     let s = c.args in
     answered_taken (line_tests 2 s.degree s.cells.now []) s.degree (λ d. decode (bounded d) s.cells.now (filling_word s.filling_low s.filling_high))
-    (rw c.in-Taken.is at c.line_test-call.ensures) (rw c.of_numbers.ensures at c.decode_taken.ensures)
+    c.in_ok-d.ensures (rw c.of_numbers.ensures at c.decode_taken.ensures)
 
-pub returns-in-Refused : goal.returns-in-Refused
-returns-in-Refused c =
+pub returns-in_err-d : goal.returns-in_err-d
+returns-in_err-d c =
     let s = c.args in
-    answered_refused (line_tests 2 s.degree s.cells.now []) s.degree (λ d. decode (bounded d) s.cells.now (filling_word s.filling_low s.filling_high)) c.in-Refused.why
-    (rw c.in-Refused.is at c.line_test-call.ensures)
+    let p = err_from_is_err_and c.from_residual.result c.from_residual.ensures.1 in
+    rw (p.1, p.2) (answered_refused (line_tests 2 s.degree s.cells.now []) s.degree (λ d. decode (bounded d) s.cells.now (filling_word s.filling_low s.filling_high)) _ c.in_err-d.ensures)

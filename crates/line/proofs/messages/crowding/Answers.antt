@@ -12,4 +12,4 @@ pub returns-then-erased-eq-DISTANCE : goal.returns-then-erased-eq-DISTANCE
 returns-then-erased-eq-DISTANCE c =
     λ n rs q k z.
     let e = eqb (c.args.erased + 1) designed_distance in
-    ap (λ (x : Bool). e && x) (known_at k q (rw c.erased_of.ensures at z)) ∙ and-false e
+    ap (λ (x : Bool). e && x) (known_at k q z) ∙ and-false e

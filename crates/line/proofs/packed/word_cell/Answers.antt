@@ -7,4 +7,4 @@ use Rattle.line.proofs.Packing.{bit_of_word}
 use Rattle.line.proofs.packed.word_cell.Goals as goal
 
 pub returns : goal.returns
-returns c = (rw c.bit_at.ensures (bit_at_lt (value c.args.word) c.args.k), λ n ws p. c.bit_at.ensures ∙ bit_of_word c.args.k p)
+returns c = (rw c.bit_at.ensures (bit_at_lt (value c.args.word) c.args.k.number), λ n ws p. c.bit_at.ensures ∙ bit_of_word c.args.k.number p)

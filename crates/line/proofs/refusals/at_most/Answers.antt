@@ -1,18 +1,13 @@
--- `line::refusals::at_most` meets its contract. The loop's invariant: what is told so far, with the test of the cells that are
--- left, is the test of all.
+-- `line::refusals::at_most` meets its contract: what the fold holds after some cells is the test of those.
 -- Assumes nothing.
-use mathlib.Core.Path.{sym, ap, ◌∙◌}
-use mathlib.Core.Bool.{◌&&◌, and_assoc, and-true}
-use native.Mathlib.Omega.{arith}
-use Rattle.line.proofs.Refusing.{one_more, passed_all}
+use Rattle.std.proofs.Common.{rules, ◌≡◌, refl, subst}
+use Rattle.std.proofs.lemmas.Fn.{fold_over, fronts, slice_gives}
+use Rattle.line.specs.Refusals.{at_most}
+use Rattle.line.proofs.Refusing.{at_most_push}
 use Rattle.line.proofs.refusals.at_most.Goals as goal
 
-pub loop-i-preserved : goal.loop-i-preserved
-loop-i-preserved c =
-    let l = c.loop-i in
-    (omega arith, and_assoc l.all _ _ ∙ ap (λ b. l.all && b) (sym (one_more _ _ _ c.loop-i-test.true)) ∙ l.invariant.1)
-
 pub returns : goal.returns
-returns c =
-    let l = c.loop-i in
-    sym (and-true l.all) ∙ ap (λ b. l.all && b) (sym (passed_all _ _ _ c.loop-i-test.false)) ∙ l.invariant.1
+unfolding at_most
+returns c = subst (λ l. c.fold.result ≡ at_most c.args.bound l) c.iter.ensures.rest
+    (fold_over fronts (λ y. y.now) _ (λ ys a. a ≡ at_most c.args.bound ys) _ (λ ys a x b f' j k. let more = at_most_push c.args.bound ys x.now in search rules)
+    _ _ _ _ (slice_gives c.iter.result) refl c.fold.ensures.ran)

@@ -1,8 +1,8 @@
--- `shuffling::number_places` meets its contract. The loop's invariant: the first i places are numbered. The measure is the places left.
+-- `shuffling::number_places` meets its contract. The loop's invariant: the first i places are numbered.
 -- Assumes nothing.
+use Rattle.std.proofs.Common.{arith}
 use Rattle.load.proofs.Numbering.{numbered_end}
 use Rattle.load.proofs.shuffling.number_places.Goals as goal
 
--- src/shuffling.rt:13:1
 pub returns : goal.returns
-returns c = numbered_end c.loop-i.invariant c.loop-i-test.false
+returns c = numbered_end c.loop-i.invariant (omega arith)

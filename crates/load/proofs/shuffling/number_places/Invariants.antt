@@ -1,11 +1,8 @@
--- `shuffling::number_places` meets its contract. The loop's invariant: the first i places are numbered. The measure is the places left.
+-- `shuffling::number_places` meets its contract. The loop's invariant: the first i places are numbered.
 -- Assumes nothing.
-use Rattle.std.proofs.Common.{◌-◌, length}
+use Rattle.std.proofs.Common.{length}
 use Rattle.load.proofs.Numbering.{Numbered}
 use Rattle.load.proofs.shuffling.number_places.Given as goal
 
 abbrev pub invariant-loop-i : goal.invariant-loop-i
 invariant-loop-i l = Numbered (length l.initial.places) l.places l.i
-
-abbrev pub decreases-loop-i : goal.decreases-loop-i
-decreases-loop-i l = length l.initial.places - l.i

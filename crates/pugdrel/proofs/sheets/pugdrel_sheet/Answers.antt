@@ -11,4 +11,4 @@ returns-then-output-report c =
 pub returns-else-output-report : goal.returns-else-output-report
 returns-else-output-report c =
     let s = c.args in
-    sheet_refused s.input.now s.output.now s.report.now c.if-output-report.false c.tell-else-output-report.ensures
+    rw c.from.ensures (sheet_refused s.input.now s.output.now s.report.now c.if-output-report.false c.tell-else-output-report.ensures)

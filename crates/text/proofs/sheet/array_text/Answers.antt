@@ -1,6 +1,6 @@
 -- `sheet::array_text` meets its contract: the cells are read, decoded and printed.
 -- Assumes nothing.
-use mathlib.Core.Path.{sym}
+use mathlib.Core.Path.{◌∙◌}
 use Rattle.text.proofs.SheetLaws.{cells_array, report_is}
 use Rattle.text.proofs.sheet.array_text.Goals as goal
 
@@ -11,4 +11,4 @@ decoded-report-requires c =
 
 pub returns : goal.returns
 returns c =
-    rw (sym (report_is c.args.d c.args.text.now c.size_of-n.ensures c.read_cells.ensures c.decoded-report.ensures)) c.report_text.ensures
+    c.put_report.ensures ∙ report_is c.args.d c.args.text.now c.size_of-n.ensures c.read_cells.ensures c.decoded-report.ensures

@@ -6,4 +6,4 @@ use Rattle.words.proofs.transpose.swap_block.Goals as goal
 
 pub loop-i-preserved : goal.loop-i-preserved
 loop-i-preserved c =
-    swapped_next _ _ _ _ _ _ c.loop-i.invariant c.loop-i-test.true c.requires.1 _ _ c.exchange-e.ensures.0 c.exchange-e.ensures.1
+    swapped_next _ _ _ _ _ _ c.loop-i.invariant c.loop-i-test.true c.requires.1 _ _ c.exchange-x.ensures.0 c.exchange-x.ensures.1

@@ -6,8 +6,8 @@ use Rattle.words.proofs.word.pairs.gather_pair.Goals as goal
 pub returns : goal.returns
 returns c =
     let cut = c.cut_of-cut.ensures in
-    let low = c.gather_part-low.ensures in
-    let high = c.gather_part-high.ensures in (
+    let low = c.gather_part-low_first.ensures in
+    let high = c.gather_part-high_first.ensures in (
       gathered_both _ _ cut.0 c.requires.1 cut.2 0 _ low.0 high.0 c.of_numbers.ensures,
       gathered_both _ _ cut.0 c.requires.1 cut.2 1 _ low.1 high.1 c.of_numbers-2.ensures,
     )

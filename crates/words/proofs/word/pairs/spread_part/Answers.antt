@@ -2,34 +2,33 @@
 -- Assumes nothing.
 use mathlib.Core.Path.{◌≡◌, sym, ◌∙◌}
 use mathlib.Core.List.{append-nil}
-use Prim.Native.Nat.{◌≤◌, ◌+◌, ◌-◌}
+use Prim.Native.Nat.{◌≤◌, ◌+◌, ◌-◌, ◌*◌, ◌%◌}
 use native.Mathlib.Omega.{arith}
 use lib.ListN.{length, take}
-use lib.Seq.{take_all}
+use lib.Seq.{take_all, length-sets}
 use Rattle.words.specs.Working.Pairs.{pairs_of}
-use Rattle.words.proofs.PairLaws.{spread_turn, put_pairs}
+use Rattle.words.proofs.ByteLaws.{eight_bytes, put_bytes}
+use Rattle.words.proofs.PairLaws.{spread_turn, put_pairs, length_pairs}
 use Rattle.words.proofs.word.pairs.spread_part.Goals as goal
 
-pub loop-at-preserved : goal.loop-at-preserved
-loop-at-preserved c =
-    let p = c.put_eight in
-    let y = c.spread-in-loop-at.ensures.0 in
+pub loop-i-preserved : goal.loop-i-preserved
+loop-i-preserved c =
+    let p = c.copy_from_slice in
+    let y = c.spread-in-loop-i.ensures.0 in
     let x = c.spread.ensures.0 in
-    let l = c.loop-at in
+    let l = c.loop-i in
     let n = length c.args.bytes.now in
-    let room : l.at + 8 ≤ length l.bytes = omega arith in
-    let e = put_pairs l.bytes p.new.bytes l.at l.a l.b x y p.ensures in (
-      omega (arith, p.auto.bytes),
-      omega arith,
-      p.auto.bytes ∙ l.invariant.2,
-      rw e (spread_turn l.bytes n l.at l.a l.b room l.invariant.2 ∙ l.invariant.3),
-    )
+    let room : 8 * l.i + 8 ≤ length l.bytes = omega (arith, l.invariant.0) in
+    let next : 8 * l.i + 8 ≡ 8 * (l.i + 1) = omega arith in
+    let vs = pairs_of 8 (l.a % 256) (l.b % 256) in
+    let e = put_bytes l.bytes vs p.new.self (8 * l.i) 8 (length_pairs 8 (l.a % 256) (l.b % 256)) room (p.ensures.after ∙ c.to_le_bytes.ensures ∙ eight_bytes _ ∙ put_pairs l.a l.b x y) in
+    rw e (rw length-sets l.invariant.0, rw (← next) (spread_turn l.bytes n (8 * l.i) l.a l.b room l.invariant.0 ∙ l.invariant.1))
 
 pub returns : goal.returns
 unfolding pairs_of
 returns c =
-    let l = c.loop-at in
+    let l = c.loop-i in
     let n = length c.args.bytes.now in
-    let all : length l.bytes ≤ l.at = omega arith in
-    let none : n - l.at ≡ 0 = omega arith in
-    sym (take_all l.at l.bytes all) ∙ sym (append-nil (take l.at l.bytes)) ∙ rw none at l.invariant.3
+    let all : length l.bytes ≤ 8 * l.i = omega (arith, l.invariant.0, c.requires) in
+    let none : n - 8 * l.i ≡ 0 = omega (arith, l.invariant.0) in
+    sym (take_all (8 * l.i) l.bytes all) ∙ sym (append-nil (take (8 * l.i) l.bytes)) ∙ rw none at l.invariant.1

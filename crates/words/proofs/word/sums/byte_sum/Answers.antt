@@ -11,7 +11,7 @@ use Rattle.words.proofs.word.sums.byte_sum.Goals as goal
 pub returns : goal.returns
 returns c =
     let s = c.args in
-    let v = value s.word in
+    let v = value s.word.now in
     let low = c.eight_sum-sum.ensures in
     let high = c.sum_with.ensures in
     λ W t.

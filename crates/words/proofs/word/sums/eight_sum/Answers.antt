@@ -4,7 +4,6 @@
 use mathlib.Core.Path.{◌≡◌, refl, sym}
 use Prim.Native.Nat.{ℕ}
 use native.Mathlib.Nat.{div-one}
-use native.Mathlib.Omega.{arith}
 use lib.Bits.{bit_xor}
 use Rattle.laws.specs.Digits.{sum_over, digits}
 use Rattle.words.proofs.SumLaws.{byte_next, rest_next}
@@ -15,13 +14,12 @@ unfolding sum_over digits
 start W number = refl
 
 pub loop-j-init : goal.loop-j-init
-loop-j-init c = (omega arith, sym (div-one _), λ W t. start W _)
+loop-j-init c = (sym (div-one _), λ W t. start W _)
 
 pub loop-j-preserved : goal.loop-j-preserved
 loop-j-preserved c =
     let l = c.loop-j in
     let s = c.args in (
-      omega arith,
-      rest_next s.number l.rest l.j l.invariant.1,
-      λ W t. byte_next W s.table.now s.base s.number 0 l.sum l.rest l.j t c.loop-j-test.true l.invariant.1 (l.invariant.2 W t),
+      rest_next s.number l.rest l.j l.invariant.0,
+      λ W t. byte_next W s.table.now s.base s.number 0 l.sum l.rest l.j t c.loop-j-test.true l.invariant.0 (l.invariant.1 W t),
     )

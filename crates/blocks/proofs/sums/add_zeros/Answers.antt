@@ -1,8 +1,0 @@
--- `sums::add_zeros` meets its contract: each zero adds A to B.
--- Assumes nothing.
-use mathlib.Core.Path.{sym}
-use Rattle.blocks.proofs.AddingLaws.{added_zeros}
-use Rattle.blocks.proofs.sums.add_zeros.Goals as goal
-
-pub returns : goal.returns
-returns c = let s = c.args in sym (added_zeros s.sums.a s.sums.b s.many)

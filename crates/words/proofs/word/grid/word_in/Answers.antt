@@ -1,8 +1,0 @@
--- `words::word::grid::word_in` meets its contract: both numbers of the word are read.
--- Assumes nothing.
-use Rattle.words.specs.Working.Grid.{word_in}
-use Rattle.words.proofs.word.grid.word_in.Goals as goal
-
-pub returns : goal.returns
-unfolding word_in
-returns c = c.of_numbers.ensures
