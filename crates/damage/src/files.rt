@@ -1,20 +1,17 @@
 // Sheets by chance and their files, which are three blocks of 512 bytes, and faults in these.
-ghost use Rattle.std.specs.Prelude.{◌<◌, ◌≡◌, replicate};
+ghost use Rattle.std.specs.Prelude.{◌<◌, ◌≡◌, replicate, IfNone};
 ghost use Rattle.second.specs.Working.Loops.{Below};
 ghost use Rattle.second.specs.Working.Blocks.{with_bytes, summed};
 
-use crate::chance::below;
-use second::blocks::{put_blocks, sum_blocks};
+use crate::chance::Chance;
+use second::blocks::{Sheet, put_blocks, sum_blocks};
 
-// The cells of a degree 6 sheet.
-pub type Sheet = [u8; 4096];
-
-pub fn any_sheet(state: &mut u64) -> Sheet
+pub fn any_sheet(chance: &mut Chance) -> Sheet
     ensures { Below 3 result }
 {
     let mut sheet = [0u8; 4096];
-    for i in 0..4096 {
-        sheet[i] = below(state, 3) as u8;
+    for cell in sheet.iter_mut() {
+        *cell = chance.below(3) as u8;
     }
     sheet
 }
@@ -40,64 +37,63 @@ pub fn mended(file: FileRoom) -> FileRoom
     other
 }
 
-// Kinds of faults, by the byte that is another one then: 1 to 4 are bytes 0 to 3 of a block, 5 and 6 its sums A and B, 7 any of its bytes up
-// to 463, 8 one of bytes 500 to 509, and 9 one of the filler after row 63. Of kind 10 a cell of the first two rows of a block becomes 3.
-const NO_FAULT: usize = 0;
+// Kinds of faults, by the byte that is another one then.
+#[derive(Clone, Copy, PartialEq, Eq, Debug)]
+pub enum Fault {
+    // Byte 0 to 3 of a block.
+    Head(usize),
+    // The sums of a block.
+    SumA,
+    SumB,
+    // Any byte of a block up to 463.
+    AnyByte,
+    // One of bytes 500 to 509.
+    Filler,
+    // One of the filler after row 63.
+    AfterRows,
+    // A cell of the first two rows of a block becomes 3.
+    CellOfThree,
+}
 
-const SUM_A: usize = 5;
+impl Fault {
+    // Its place, by the beginning of a block and a number that was drawn.
+    fn place(self, start: usize, drawn: usize) -> usize
+        requires { (start < 1025) × (drawn < 464) }
+        ensures { result < 1536 }
+    {
+        match self {
+            Fault::Head(byte) => start + byte % 4,
+            Fault::SumA => start + 510,
+            Fault::SumB => start + 511,
+            Fault::AnyByte => start + drawn,
+            Fault::Filler => start + 500 + drawn % 10,
+            Fault::AfterRows => 1060 + drawn,
+            Fault::CellOfThree => start + 4 + drawn % 32,
+        }
+    }
 
-const ANY_BYTE: usize = 7;
-
-const FILLER: usize = 8;
-
-const AFTER_ROWS: usize = 9;
-
-const CELL_OF_THREE: usize = 10;
-
-// The place of a fault, by the beginning of a block and a number that was drawn.
-fn fault_place(kind: usize, start: usize, drawn: usize) -> usize
-    requires { (start < 1025) × (drawn < 464) }
-    ensures { result < 1536 }
-{
-    if kind < SUM_A {
-        start + (kind + 3) % 4
-    } else if kind < ANY_BYTE {
-        start + 505 + kind
-    } else if kind == ANY_BYTE {
-        start + drawn
-    } else if kind == FILLER {
-        start + 500 + drawn % 10
-    } else if kind == AFTER_ROWS {
-        1060 + drawn
-    } else {
-        start + 4 + drawn % 32
+    // Another byte, or one with a cell of 3.
+    fn faulty(self, byte: u8, drawn: usize) -> u8
+        requires { drawn < 255 }
+    {
+        match self {
+            Fault::CellOfThree => byte | THREES[drawn % 4],
+            _ => byte ^ (1 + drawn) as u8,
+        }
     }
 }
 
 const THREES: [u8; 4] = [3, 12, 48, 192];
 
-// Another byte, or one with a cell of 3.
-fn faulty_byte(kind: usize, byte: u8, drawn: usize) -> u8
-    requires { drawn < 255 }
+// The file with a fault, or as it is without one. The sums stay as they are.
+pub fn spoilt(fault: Option<Fault>, chance: &mut Chance, file: FileRoom) -> FileRoom
+    ensures { IfNone fault (result ≡ file) }
 {
-    if kind == CELL_OF_THREE {
-        byte | THREES[drawn % 4]
-    } else {
-        byte ^ (1 + drawn) as u8
+    let mut other = file;
+    if let Some(kind) = fault {
+        let start = 512 * chance.below(3);
+        let at = kind.place(start, chance.below(464));
+        other[at] = kind.faulty(file[at], chance.below(255));
     }
-}
-
-// The file with a fault. The sums stay as they are.
-pub fn spoilt(kind: usize, state: &mut u64, file: FileRoom) -> FileRoom
-    ensures { kind ≡ 0 → result ≡ file }
-{
-    if kind == NO_FAULT {
-        file
-    } else {
-        let start = 512 * below(state, 3);
-        let at = fault_place(kind, start, below(state, 464));
-        let mut other = file;
-        other[at] = faulty_byte(kind, file[at], below(state, 255));
-        other
-    }
+    other
 }

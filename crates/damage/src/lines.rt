@@ -1,31 +1,36 @@
 // Damage to a line: cells that are wrong, and cells that are unsure.
-ghost use Rattle.std.specs.Prelude.{◌≤◌, ◌<◌};
+ghost use Rattle.std.specs.Prelude.{◌≤◌, ◌<◌, length, IfSome};
 ghost use Rattle.second.specs.Working.Loops.{Below};
 
-use crate::chance::below;
+use crate::chance::Chance;
+use second::codes::Code;
 use second::codewords::Line;
 
 // What becomes of a cell that is hit. It is flipped: one that is hit twice is right again, and an unsure one stays unsure. Or it becomes
 // any bit, or any cell. Or the first known cell from there on, round the end of the line, becomes unsure.
-pub const FLIPPED: usize = 0;
+#[derive(Clone, Copy, PartialEq, Eq, Debug)]
+pub enum Hit {
+    Flipped,
+    AnyBit,
+    AnyCell,
+    Unsure,
+}
 
-pub const ANY_BIT: usize = 1;
+fn first_known(cells: &[u8]) -> Option<usize>
+    ensures { IfSome result (λ place. place < length cells.now) }
+{
+    cells.iter().position(|cell| *cell != 2)
+}
 
-pub const ANY_CELL: usize = 2;
-
-pub const UNSURE: usize = 3;
-
-fn erase_from(n: usize, from: usize, line: &mut Line)
-    requires { (n ≤ 128) × (from < n) }
+fn erase_from(code: Code, from: usize, line: &mut Line)
+    requires { (from ≤ code.n) × (from < 128) }
     ensures { Below 3 line.old → Below 3 line.new }
 {
-    let mut i = from;
-    let mut left = n;
-    while 0 < left && line[i] == 2 {
-        i = (i + 1) % n;
-        left -= 1;
-    }
-    line[i] = 2;
+    let at = match first_known(&line[from..code.n]) {
+        Some(place) => from + place,
+        None => first_known(&line[..from]).unwrap_or(from),
+    };
+    line[at] = 2;
 }
 
 // The other value of a known cell.
@@ -35,48 +40,34 @@ pub fn flipped(cell: u8) -> u8
     if cell == 2 { 2 } else { cell ^ 1 }
 }
 
-// A bit, or a cell, of a number that was drawn.
-fn any(how: usize, drawn: usize) -> u8
-    ensures { result < 3 }
-{
-    if how == ANY_BIT {
-        (drawn % 2) as u8
-    } else {
-        (drawn % 3) as u8
-    }
-}
-
-fn hit(how: usize, n: usize, i: usize, state: &mut u64, line: &mut Line)
-    requires { (n ≤ 128) × (i < n) }
+fn hit_cell(how: Hit, code: Code, i: usize, chance: &mut Chance, line: &mut Line)
+    requires { (i ≤ code.n) × (i < 128) }
     ensures { Below 3 line.old → Below 3 line.new }
 {
-    if how == UNSURE {
-        erase_from(n, i, line);
-    } else if how == FLIPPED {
-        line[i] = flipped(line[i]);
-    } else {
-        line[i] = any(how, below(state, 6));
+    match how {
+        Hit::Unsure => erase_from(code, i, line),
+        Hit::Flipped => line[i] = flipped(line[i]),
+        Hit::AnyBit => line[i] = (chance.below(6) % 2) as u8,
+        Hit::AnyCell => line[i] = (chance.below(6) % 3) as u8,
     }
 }
 
 // The line with so many cells hit.
-pub fn hit_some(how: usize, many: usize, n: usize, state: &mut u64, line: Line) -> Line
-    requires { (0 < n) × (n ≤ 128) }
+pub fn hit_some(how: Hit, many: usize, code: Code, chance: &mut Chance, line: Line) -> Line
     ensures { Below 3 line → Below 3 result }
 {
     let mut other = line;
     for _ in 0..many {
-        let i = below(state, n);
-        hit(how, n, i, state, &mut other);
+        let i = chance.below(code.n);
+        hit_cell(how, code, i, chance, &mut other);
     }
     other
 }
 
 // So many wrong, and so many unsure.
-pub fn damaged_by(wrong: usize, erased: usize, n: usize, state: &mut u64, sent: Line) -> Line
-    requires { (0 < n) × (n ≤ 128) }
+pub fn damaged_by(wrong: usize, erased: usize, code: Code, chance: &mut Chance, sent: Line) -> Line
     ensures { Below 3 sent → Below 3 result }
 {
-    let other = hit_some(FLIPPED, wrong, n, state, sent);
-    hit_some(UNSURE, erased, n, state, other)
+    let other = hit_some(Hit::Flipped, wrong, code, chance, sent);
+    hit_some(Hit::Unsure, erased, code, chance, other)
 }

@@ -1,44 +1,12 @@
--- Numbers in decimal: how many digits, one digit more at the front of those that are written, and what std writes for a number.
+-- Numbers in decimal: one digit more at the front of those that are written, and what std writes for a number.
 -- Assumes nothing.
-use Rattle.std.proofs.Common.{◌≡◌, ℕ, zero, suc, ◌+◌, ◌-◌, ◌*◌, ◌/◌, ◌%◌, ◌^◌, ◌<◌, ◌≤◌, List, [], ◌∷◌, ◌++◌, length, take, drop, set, decimal, sym, ap, subst, ◌∙◌, add-one, arith}
+use Rattle.std.proofs.Common.{◌≡◌, ℕ, zero, suc, ◌+◌, ◌-◌, ◌/◌, ◌%◌, ◌^◌, ◌<◌, ◌≤◌, List, [], ◌∷◌, ◌++◌, length, take, drop, set, decimal, sym, ap, subst, ◌∙◌, add-one, arith}
 use Rattle.std.proofs.Math.Numerals.{sub-one}
 use Rattle.std.proofs.Math.Seq.{take-set-lt, append_snoc}
 use Rattle.std.proofs.lemmas.List.{drop-set, length-take-le}
 use Rattle.std.proofs.lemmas.Fmt.{decimal_digit, decimal_step}
-use Rattle.std.proofs.Math.Nat.{pow-suc, pow-le-pow_right, div-div-eq-div-mul, one-le-pow, le-div_iff_mul-le, div-lt_iff_lt-mul, le_of_suc-le-suc, not-suc-le-zero, lt_of_not-le}
-use Rattle.second.specs.Working.Sheets.{last_digits, IsDigitCount}
-
--- one digit more is taken off
-pub rest_next : (number k : ℕ) {rest : ℕ} → rest ≡ number / 10 ^ k → rest / 10 ≡ number / 10 ^ (k + 1)
-rest_next number k e =
-    ap (λ (x : ℕ). x / 10) e
-    ∙ div-div-eq-div-mul number (10 ^ k) 10
-    ∙ ap (λ (d : ℕ). number / d) (sym (pow-suc 10 k) ∙ ap (λ (j : ℕ). 10 ^ j) (sym (add-one k)))
-
--- something is left after k digits, so the number has more
-pub more_digits : (number k : ℕ) {rest : ℕ} → rest ≡ number / 10 ^ k → 0 < rest → 10 ^ (k + 1 - 1) ≤ number
-more_digits number k e some =
-    let j : k ≡ k + 1 - 1 = omega arith in
-    let some' : 1 ≤ number / 10 ^ k = subst (λ (x : ℕ). 1 ≤ x) e some in
-    let p : 1 * 10 ^ k ≤ number = (le-div_iff_mul-le (one-le-pow k 10 (omega arith))).0 some' in
-    subst (λ (x : ℕ). 10 ^ x ≤ number) j (omega arith)
-
--- nothing is left after k digits, so these hold it
-pub no_more_digits : (number k : ℕ) {rest : ℕ} → rest ≡ number / 10 ^ k → rest < 1 → number < 10 ^ k
-no_more_digits number k e none =
-    let none' : number / 10 ^ k < 1 = subst (λ (x : ℕ). x < 1) e none in
-    let p : number < 1 * 10 ^ k = (div-lt_iff_lt-mul (one-le-pow k 10 (omega arith))).0 none' in
-    omega arith
-
-not_above : (number k : ℕ) → IsDigitCount number k → number < 10 ^ 20 → 20 < k → ⊥
-not_above number k count holds over =
-    let p : 10 ^ (k - 1) ≤ number = count.2 (omega arith) in
-    let q : 10 ^ 20 ≤ 10 ^ (k - 1) = pow-le-pow_right {n = 10} (omega arith) {i = 20} {j = k - 1} (omega arith) in
-    omega arith
-
--- twenty digits hold a number of 64 bits
-pub count_fits : (number k : ℕ) → IsDigitCount number k → number < 2 ^ 64 → k ≤ 20
-count_fits number k count holds = le_of_suc-le-suc (lt_of_not-le (not_above number k count (omega arith)))
+use Rattle.std.proofs.Math.Nat.{one-le-pow, not-suc-le-zero}
+use Rattle.second.specs.Working.Digits.{last_digits, IsDigitCount}
 
 -- a digit moves from those still to write to the front of those that are written
 pub digits_next : (i many rest : ℕ) (room : List ℕ) → 0 < i → i ≤ many → many ≤ length room

@@ -1,6 +1,5 @@
 mod Loops
 mod Places
-mod Noting
 pub mod Ranges
 mod Digits
 mod Parts

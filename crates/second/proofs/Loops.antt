@@ -1,20 +1,22 @@
 -- One turn more of a loop over cells.
 -- Assumes nothing.
-use Rattle.std.proofs.Common.{◌≡◌, ℕ, suc, ◌+◌, ◌-◌, ◌%◌, Bool, true, false, List, get_or, set, ap, ◌∙◌, ap₂, add-one, arith}
+use Rattle.std.proofs.Common.{◌≡◌, ℕ, suc, ◌+◌, ◌-◌, ◌%◌, Bool, List, get_or, set, ap, ◌∙◌, ap₂, add-one}
 use lib.Bits.{bit_xor}
 use Rattle.laws.specs.Sums.{sum_to}
 use Rattle.laws.specs.Tests.{every}
+use Rattle.std.specs.List.{swap}
+use Rattle.second.specs.declared.loads.Mark.{Mark}
 use Rattle.second.specs.Working.Codes.{times_alpha, power_of}
 use Rattle.second.specs.Working.Arrays.{taken_line, with_line}
 use Rattle.second.specs.Working.Encoding.{coefficient_of, divided, remainder_of, encoded_line, encoded_to}
 use Rattle.second.specs.Working.Loops.{written, xored}
 use Rattle.second.specs.Working.Blocks.{sum_a, sum_b, with_sums, summed}
-use Rattle.second.specs.Working.Loads.{shifted, shifted_times, changed, changed_to}
+use Rattle.second.specs.Working.Loads.{shifted, shifted_times, changed_to}
 
--- one number more is written
-pub written_next : (p g : ℕ → ℕ) (k : ℕ) (m : List ℕ) {l : List ℕ} → l ≡ written p g k m → set l (p k) (g k) ≡ written p g (k + 1) m
+-- one value more is written
+pub written_next : {A : Type 0} (p : ℕ → ℕ) (g : ℕ → A) (k : ℕ) (m : List A) {l : List A} → l ≡ written p g k m → set l (p k) (g k) ≡ written p g (k + 1) m
 unfolding written
-written_next p g k m e = rw (add-one k) (ap (λ (x : List ℕ). set x (p k) (g k)) e)
+written_next {A} p g k m e = rw (add-one k) (ap (λ (x : List A). set x (p k) (g k)) e)
 
 -- one number more is added by exclusive or
 pub xored_next : (f : ℕ → ℕ) (k : ℕ) {x : ℕ} → x ≡ xored f k → bit_xor x (f k) ≡ xored f (k + 1)
@@ -66,10 +68,6 @@ unfolding shifted_times
 shifted_next seed k e = rw (add-one k) (ap shifted e)
 
 -- one place more changes
-pub changed_next : (draws : List ℕ) (k : ℕ) (m : List ℕ) {l : List ℕ} → l ≡ changed_to draws k m → changed (k + 1) (get_or draws (k + 1) 0 % (k + 1 + 1)) l ≡ changed_to draws (k + 1) m
+pub changed_next : (draws : List ℕ) (k : ℕ) (m : List Mark) {l : List Mark} → l ≡ changed_to draws k m → swap l (k + 1) (get_or draws (k + 1) 0 % (k + 1 + 1)) ≡ changed_to draws (k + 1) m
 unfolding changed_to
-changed_next draws k m e = rw (add-one k) (ap (changed (suc k) (get_or draws (suc k) 0 % (suc k + 1))) e)
-
--- what is found has not failed
-pub found_not : {A : Type 0} → true ≡ false → A
-found_not e = let z : ◌≡◌ {A = ℕ} 0 1 = cc in absurd (omega arith)
+changed_next draws k m e = rw (add-one k) (ap (λ (x : List Mark). swap x (suc k) (get_or draws (suc k) 0 % (suc k + 1))) e)

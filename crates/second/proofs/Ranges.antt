@@ -1,10 +1,9 @@
 -- Cells stay below a bound.
 -- Assumes nothing.
-use Rattle.std.proofs.Common.{ℕ, zero, suc, ◌-◌, ◌/◌, ◌%◌, ◌^◌, ◌<◌, List, [], ◌∷◌, get_or, set, replicate, mod-lt, arith}
+use Rattle.std.proofs.Common.{ℕ, zero, suc, ◌-◌, ◌/◌, ◌%◌, ◌^◌, ◌<◌, List, [], ◌∷◌, get_or, set, take, replicate, mod-lt, arith}
 use lib.Bits.{bit_xor}
 use Rattle.second.specs.Working.Loops.{Below, written}
-use Rattle.laws.specs.Sums.{sum_to}
-use Rattle.second.specs.Working.Lines.{is_like}
+use Rattle.second.specs.Working.Lines.{like}
 use Rattle.second.specs.Working.Arrays.{place_of, taken_line, with_line}
 use Rattle.second.specs.Working.Encoding.{first_of, remainder_of, checked_line, encoded_line, encoded_to}
 
@@ -56,9 +55,9 @@ below_line n line h =
     let z : 0 < 2 = omega arith in
     let checks = remainder_of n line (n - 1) in
     let checked = checked_line n checks line in
-    below_set checked (n - 1) (sum_to (is_like 1 checked) (n - 1) % 2) 2
+    below_set checked (n - 1) (like 1 (take (n - 1) checked) % 2) 2
     (below_written (λ i. i) (λ i. checks / 2 ^ i % 2) (first_of n) 2 line (λ i. mod-lt (checks / 2 ^ i) z) h)
-    (mod-lt (sum_to (is_like 1 checked) (n - 1)) z)
+    (mod-lt (like 1 (take (n - 1) checked)) z)
 
 -- an array of encoded lines
 pub below_lines : (n k : ℕ) (cells : List ℕ) → Below 2 cells → Below 2 (encoded_to n k cells)

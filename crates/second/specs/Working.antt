@@ -6,4 +6,5 @@ pub mod Encoding
 pub mod Tallies
 pub mod Blocks
 pub mod Loads
-pub mod Sheets
+pub mod Digits
+pub mod Refusals

@@ -1,12 +1,12 @@
 // Lines with unsure cells: line decoding, one decoding per cell for the messages, and the clause that each cell of a line falls
 // under, tested from its definition. A cell is 0, 1 or 2, and 2 is unsure.
-ghost use Rattle.std.specs.Prelude.{◌≡◌, ◌+◌, ◌*◌, ◌%◌, ◌^◌, ◌<◌, ◌≤◌, false};
-ghost use Rattle.laws.specs.Sums.{sum_to};
+ghost use Rattle.std.specs.Prelude.{◌≡◌, ◌+◌, ◌*◌, ◌<◌, ◌≤◌, length, IfSome};
 ghost use Rattle.second.specs.Working.Loops.{Below};
-ghost use Rattle.second.specs.Working.Lines.{one_where, is_like, differs_at};
+ghost use Rattle.second.specs.Working.Lines.{one_where, like, differences};
 
-use crate::codewords::{Attempt, Line, Weights, bounded_distance};
-use crate::tallies::{CLAUSES, Totals, tick_if};
+use crate::codes::Code;
+use crate::codewords::{Decoder, Line};
+use crate::tallies::Clauses;
 
 // A filling word is two numbers, low word first: the bits of cells 0 to 63, and those of cells 64 to 127.
 #[derive(Clone, Copy)]
@@ -15,22 +15,24 @@ pub struct FillingWord {
     pub high: u64,
 }
 
-fn opposite(filling: FillingWord) -> FillingWord {
-    FillingWord {
-        low: filling.low ^ 0xFFFFFFFFFFFFFFFF,
-        high: filling.high ^ 0xFFFFFFFFFFFFFFFF,
+impl FillingWord {
+    fn opposite(self) -> FillingWord {
+        FillingWord {
+            low: !self.low,
+            high: !self.high,
+        }
     }
-}
 
-// Bit i, which serves cell i.
-fn filling_bit(filling: FillingWord, i: usize) -> u8
-    requires { i < 128 }
-    ensures { result < 2 }
-{
-    if i < 64 {
-        ((filling.low >> i) % 2) as u8
-    } else {
-        ((filling.high >> (i - 64)) % 2) as u8
+    // Bit i, which serves cell i.
+    fn bit(self, i: usize) -> u8
+        requires { i < 128 }
+        ensures { result < 2 }
+    {
+        if i < 64 {
+            ((self.low >> i) % 2) as u8
+        } else {
+            ((self.high >> (i - 64)) % 2) as u8
+        }
     }
 }
 
@@ -42,13 +44,12 @@ fn filled(cell: u8, bit: u8) -> u8
 }
 
 // The line with its filling bit in each unsure cell.
-fn fill(n: usize, line: Line, filling: FillingWord) -> Line
-    requires { n ≤ 128 }
+fn fill(code: Code, line: Line, filling: FillingWord) -> Line
     ensures { Below 3 line → Below 2 result }
 {
     let mut word = [0u8; 128];
-    for i in 0..n {
-        word[i] = filled(line[i], filling_bit(filling, i));
+    for i in 0..code.n {
+        word[i] = filled(line[i], filling.bit(i));
     }
     word
 }
@@ -56,220 +57,128 @@ fn fill(n: usize, line: Line, filling: FillingWord) -> Line
 pub fn one_if(fact: bool) -> u64
     ensures { (result ≡ one_where fact) × (result ≤ 1) }
 {
-    if fact { 1 } else { 0 }
+    u64::from(fact)
 }
 
-// The first n cells of a line that are like a given one: for 2 the unsure ones, for 1 the ones.
-pub fn like(cell: u8, n: usize, line: Line) -> u64
-    requires { n ≤ 128 }
-    ensures { (result ≡ sum_to (is_like cell line) n) × (result ≤ n) }
+// The cells that are like a given one: for 2 the unsure ones, for 1 the ones.
+pub fn like(cell: u8, cells: &[u8]) -> u64
+    ensures { (result ≡ like cell cells.now) × (result ≤ length cells.now) }
 {
-    let mut many: u64 = 0;
-    for i in 0..n {
-        many += one_if(line[i] == cell);
-    }
-    many
+    cells.iter().filter(|other| **other == cell).count() as u64
 }
 
-// The unsure cells of a line.
-pub fn unsure(n: usize, line: Line) -> u64
-    requires { n ≤ 128 }
-    ensures { (result ≡ sum_to (is_like 2 line) n) × (result ≤ n) }
+// The unsure cells.
+pub fn unsure(cells: &[u8]) -> u64
+    ensures { (result ≡ like 2 cells.now) × (result ≤ length cells.now) }
 {
-    like(2, n, line)
+    like(2, cells)
 }
 
-// The known cells of a line in which a word differs from it.
-pub fn differences(n: usize, line: Line, word: Line) -> u64
-    requires { n ≤ 128 }
-    ensures { (result ≡ sum_to (differs_at line word) n) × (result ≤ n) }
+// The known cells in which a word differs from a line.
+pub fn differences(line: &[u8], word: &[u8]) -> u64
+    ensures { (result ≡ differences line.now word.now) × (result ≤ length line.now) }
 {
-    let mut many: u64 = 0;
-    for i in 0..n {
-        many += one_if((line[i] != 2) & (line[i] != word[i]));
-    }
-    many
+    line.iter()
+        .zip(word.iter())
+        .filter(|(cell, other)| (**cell != 2) & (**cell != **other))
+        .count() as u64
 }
 
 // Of what the two filled words gave, that with fewer differences at the known cells; at a tie word one's.
-fn choose(n: usize, line: Line, one: Attempt, two: Attempt) -> Attempt
-    requires { n ≤ 128 }
-    ensures { (result.found ≡ false → result.line ≡ line) × (Below 3 line → Below 2 one.line → Below 2 two.line → Below 3 result.line) }
+fn choose(code: Code, line: Line, one: Option<Line>, two: Option<Line>) -> Option<Line>
+    requires first { IfSome one (λ word. Below 3 line → Below 2 word) }
+    requires other { IfSome two (λ word. Below 3 line → Below 2 word) }
+    ensures { IfSome result (λ chosen. Below 3 line → Below 2 chosen) }
 {
-    let word_one = one.line;
-    let word_two = two.line;
-    let fewer = differences(n, line, word_two) < differences(n, line, word_one);
-    if two.found & (fewer | !one.found) {
-        Attempt {
-            found: true,
-            line: word_two,
+    match (one, two) {
+        (Some(first), Some(other)) => {
+            let known = &line[..code.n];
+            if differences(known, &other) < differences(known, &first) {
+                two
+            } else {
+                one
+            }
         }
-    } else if one.found {
-        Attempt {
-            found: true,
-            line: word_one,
-        }
-    } else {
-        Attempt {
-            found: false,
-            line: line,
-        }
+        _ => one.or(two),
     }
 }
 
-// Line decoding. A line that fails is given back as it came.
-pub fn decode(n: usize, weights: &Weights, line: Line, filling: FillingWord) -> Attempt
-    requires { n ≤ 128 }
-    ensures { (result.found ≡ false → result.line ≡ line) × (Below 3 line → Below 3 result.line) }
-{
-    if unsure(n, line) < 6 {
-        let one = bounded_distance(n, weights, fill(n, line, filling));
-        let two = bounded_distance(n, weights, fill(n, line, opposite(filling)));
-        choose(n, line, one, two)
-    } else {
-        Attempt {
-            found: false,
-            line: line,
+// ---- the clauses, which are used for the count alone
+
+// In this order they are tried: the first that fits settles a cell.
+#[derive(Clone, Copy, PartialEq, Eq, Debug)]
+pub enum Clause {
+    Equal,
+    Crowded,
+    Both,
+    Neither,
+    Agreeing,
+    Unchanged,
+    Open,
+    Afresh,
+    Channel,
+}
+
+impl Clause {
+    // The decodings that it adds to the two of its line.
+    fn cost(self) -> u64
+        ensures { result ≤ 2 }
+    {
+        match self {
+            Clause::Open => 1,
+            Clause::Afresh => 2,
+            _ => 0,
         }
     }
 }
-
-// ---- the clauses, in document 01's order; they are used for the count alone
-
-const EQUAL: usize = 0;
-
-const CROWDED: usize = 1;
-
-const BOTH: usize = 2;
-
-const NEITHER: usize = 3;
-
-const AGREEING: usize = 4;
-
-const UNCHANGED: usize = 5;
-
-const OPEN: usize = 6;
-
-const AFRESH: usize = 7;
-
-const CHANNEL: usize = 8;
 
 // What the clauses ask of one filling at cell k.
 #[derive(Clone, Copy)]
 struct Filling {
-    // The incoming line's filled word decoded to a codeword that is within 2 of the replaced line's filled word.
-    in_reach: bool,
+    // Cell k of the codeword to which the incoming line's filled word decodes, if that is within 2 of the replaced line's filled word.
+    reached: Option<u8>,
     // The filled word is unchanged by the replacement.
     unchanged: bool,
-    // Cell k of that codeword, where there is one, and cell k of the replaced line's filled word.
-    codeword_cell: u8,
+    // Cell k of the replaced line's filled word.
     replaced_cell: u8,
 }
 
-fn filling_at(
-    n: usize,
-    weights: &Weights,
-    incoming: Line,
-    replaced: Line,
-    filling: FillingWord,
-    k: usize,
-) -> Filling
-    requires { (n ≤ 128) × (k < n) }
-{
-    let before = fill(n, incoming, filling);
-    let after = fill(n, replaced, filling);
-    let decoded = bounded_distance(n, weights, before);
-    let codeword = decoded.line;
-    let unchanged = differences(n, before, after) == 0;
-    let near = differences(n, codeword, after) <= 2;
-    Filling {
-        in_reach: decoded.found & near,
-        unchanged: unchanged,
-        codeword_cell: codeword[k],
-        replaced_cell: after[k],
-    }
-}
-
-// One filling is in reach and the other is not.
-fn clause_of_one(reached: Filling, other: Filling) -> usize
-    ensures { result ≤ 8 }
-{
-    if reached.codeword_cell == other.replaced_cell {
-        AGREEING
+// One filling reaches a codeword with this cell, and the other does not.
+fn clause_of_one(cell: u8, other: Filling) -> Clause {
+    if cell == other.replaced_cell {
+        Clause::Agreeing
     } else if other.unchanged {
-        UNCHANGED
+        Clause::Unchanged
     } else {
-        OPEN
+        Clause::Open
     }
 }
 
-fn clause_by_reach(one: Filling, two: Filling, channel_cell: u8) -> usize
-    ensures { result ≤ 8 }
-{
-    if one.in_reach & two.in_reach {
-        BOTH
-    } else if one.in_reach {
-        clause_of_one(one, two)
-    } else if two.in_reach {
-        clause_of_one(two, one)
-    } else if channel_cell != 2 {
-        NEITHER
-    } else {
-        OPEN
+fn clause_by_reach(one: Filling, two: Filling, channel_cell: u8) -> Clause {
+    match (one.reached, two.reached) {
+        (Some(_), Some(_)) => Clause::Both,
+        (Some(cell), None) => clause_of_one(cell, two),
+        (None, Some(cell)) => clause_of_one(cell, one),
+        (None, None) => {
+            if channel_cell == 2 {
+                Clause::Open
+            } else {
+                Clause::Neither
+            }
+        }
     }
 }
 
 // Six or more unsure cells come in: the cell is decoded afresh where it is one of six and the channel knows it.
-fn clause_of_many(coming: u64, cell: u8, channel_cell: u8) -> usize
-    ensures { result ≤ 8 }
-{
+fn clause_of_many(coming: u64, cell: u8, channel_cell: u8) -> Clause {
     if (coming == 6) & (cell == 2) & (channel_cell != 2) {
-        AFRESH
+        Clause::Afresh
     } else {
-        CHANNEL
+        Clause::Channel
     }
 }
 
-// The clause that settles cell k: the first that fits. `replaced` is the incoming line with the channel's cell k.
-fn clause(
-    n: usize,
-    weights: &Weights,
-    incoming: Line,
-    replaced: Line,
-    filling: FillingWord,
-    k: usize,
-) -> usize
-    requires { (n ≤ 128) × (k < n) }
-    ensures { result ≤ 8 }
-{
-    let coming = unsure(n, incoming);
-    let cell = incoming[k];
-    let channel_cell = replaced[k];
-    if 6 <= coming {
-        clause_of_many(coming, cell, channel_cell)
-    } else if cell == channel_cell {
-        EQUAL
-    } else if unsure(n, replaced) == 6 {
-        CROWDED
-    } else {
-        let one = filling_at(n, weights, incoming, replaced, filling, k);
-        let two = filling_at(n, weights, incoming, replaced, opposite(filling), k);
-        clause_by_reach(one, two, channel_cell)
-    }
-}
-
-// The decodings that a clause adds to the two of its line.
-fn cost(clause: usize) -> u64
-    ensures { result ≤ 2 }
-{
-    if clause == OPEN {
-        1
-    } else if clause == AFRESH {
-        2
-    } else {
-        0
-    }
-}
+// ---- decoding, and the messages
 
 // The messages of a line, and its count.
 #[derive(Clone, Copy)]
@@ -278,34 +187,94 @@ pub struct Outgoing {
     pub line: Line,
 }
 
-// All messages of a line. The message at cell k is cell k of the line decoding of the incoming line with cell k replaced by the
-// channel's: one decoding per cell. The count is 2 if fewer than 6 unsure cells come in, plus 1 for each cell that is open, plus 2 for
-// each that is decoded afresh.
-pub fn messages(
-    n: usize,
-    weights: &Weights,
-    incoming: Line,
-    channel: Line,
-    filling: FillingWord,
-    tally: &mut Totals,
-) -> Outgoing
-    requires { n ≤ 128 }
-    ensures { (result.count ≤ 2 + 2 * n) × (Below 3 incoming → Below 3 channel → Below 3 result.line) }
-{
-    let mut sent = [0u8; 128];
-    let mut count = 2 * one_if(unsure(n, incoming) < 6);
-    for k in 0..n {
-        let mut replaced = incoming;
-        replaced[k] = channel[k];
-        let decoded = decode(n, weights, replaced, filling);
-        let line = decoded.line;
-        sent[k] = line[k];
-        let fits = clause(n, weights, incoming, replaced, filling, k);
-        tick_if(tally, CLAUSES + fits, true);
-        count += cost(fits);
+impl Decoder {
+    fn filled_decoded(&self, line: Line, filling: FillingWord) -> Option<Line>
+        ensures { IfSome result (λ word. Below 3 line → Below 2 word) }
+    {
+        self.bounded_distance(fill(self.code, line, filling))
     }
-    Outgoing {
-        count: count,
-        line: sent,
+
+    // Line decoding.
+    pub fn decode(&self, line: Line, filling: FillingWord) -> Option<Line>
+        ensures { IfSome result (λ decoded. Below 3 line → Below 3 decoded) }
+    {
+        if unsure(&line[..self.code.n]) < 6 {
+            let one = self.filled_decoded(line, filling);
+            let two = self.filled_decoded(line, filling.opposite());
+            choose(self.code, line, one, two)
+        } else {
+            None
+        }
+    }
+
+    // That cell k is one of the n is asked here and below: a type for it would be made anew for each cell of each line.
+    fn filling_at(&self, incoming: Line, replaced: Line, filling: FillingWord, k: usize) -> Filling
+        requires { k < self.now.code.n }
+    {
+        let n = self.code.n;
+        let before = fill(self.code, incoming, filling);
+        let after = fill(self.code, replaced, filling);
+        let decoded = self.bounded_distance(before);
+        Filling {
+            reached: decoded
+                .filter(|codeword| differences(&codeword[..n], &after) <= 2)
+                .map(|codeword| codeword[k]),
+            unchanged: before == after,
+            replaced_cell: after[k],
+        }
+    }
+
+    // The clause that settles cell k. `replaced` is the incoming line with the channel's cell k.
+    fn clause(&self, incoming: Line, replaced: Line, filling: FillingWord, k: usize) -> Clause
+        requires { k < self.now.code.n }
+    {
+        let n = self.code.n;
+        let coming = unsure(&incoming[..n]);
+        let cell = incoming[k];
+        let channel_cell = replaced[k];
+        if 6 <= coming {
+            clause_of_many(coming, cell, channel_cell)
+        } else if cell == channel_cell {
+            Clause::Equal
+        } else if unsure(&replaced[..n]) == 6 {
+            Clause::Crowded
+        } else {
+            let one = self.filling_at(incoming, replaced, filling, k);
+            let two = self.filling_at(incoming, replaced, filling.opposite(), k);
+            clause_by_reach(one, two, channel_cell)
+        }
+    }
+
+    // The message at cell k: cell k of the line decoding of the incoming line with the channel's cell k, or of that line where it fails.
+    fn message(&self, replaced: Line, filling: FillingWord, k: usize) -> u8
+        requires { k < self.now.code.n }
+        ensures { Below 3 replaced → result < 3 }
+    {
+        self.decode(replaced, filling).unwrap_or(replaced)[k]
+    }
+
+    // All messages of a line: one decoding per cell. The count is 2 if fewer than 6 unsure cells come in, plus 1 for each cell that is
+    // open, plus 2 for each that is decoded afresh.
+    pub fn messages(
+        &self,
+        incoming: Line,
+        channel: Line,
+        filling: FillingWord,
+        met: &mut Clauses,
+    ) -> Outgoing
+        ensures { (result.count ≤ 2 + 2 * self.now.code.n) × (Below 3 incoming → Below 3 channel → Below 3 result.line) }
+    {
+        let n = self.code.n;
+        let mut line = [0u8; 128];
+        let mut count = 2 * one_if(unsure(&incoming[..n]) < 6);
+        for k in 0..n {
+            let mut replaced = incoming;
+            replaced[k] = channel[k];
+            line[k] = self.message(replaced, filling, k);
+            let clause = self.clause(incoming, replaced, filling, k);
+            met.meet(clause);
+            count += clause.cost();
+        }
+        Outgoing { count, line }
     }
 }

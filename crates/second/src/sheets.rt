@@ -1,215 +1,131 @@
-// What the program `sheet` reads and prints, read and printed here anew from document 01.
-ghost use Rattle.std.specs.Prelude.{◌≡◌, ◌<◌, ◌≤◌, take, drop};
-ghost use Rattle.second.specs.Working.Sheets.{last_digits, IsDigitCount};
+// What the program `sheet` reads and prints, read and printed here anew.
+ghost use Rattle.std.specs.Prelude.{◌≤◌};
 
-use crate::arrays::{Cells, area_of, decode, faults_in, is_closed};
-use crate::codes::cells_of;
-use crate::codewords::Weights;
+use crate::arrays::Cells;
+use crate::codes::Code;
+use crate::codewords::Decoder;
+use crate::lines::FillingWord;
+use crate::refusals::{Refusal, ask};
+use crate::tallies::Clauses;
+use std::fmt;
+use std::fmt::Write;
 
-// Room for the longest text.
-pub type Text = [u8; 16700];
+// A text, with room for the longest.
+#[derive(Clone, Copy)]
+pub struct Page {
+    pub bytes: [u8; 16700],
+    pub length: usize,
+    pub ghost within: { length ≤ 16700 },
+}
 
-// A byte at a place, where there is room; gives the next place.
-fn put_byte(byte: u8, at: usize, output: &mut Text) -> usize
-    requires { at ≤ 16700 }
-    ensures { result ≤ 16700 }
-{
-    if at < 16700 {
-        output[at] = byte;
-        at + 1
-    } else {
-        at
+// What comes after the room is full is left out.
+impl Write for Page {
+    fn write_str(&mut self, text: &str) -> fmt::Result {
+        for byte in text.as_bytes() {
+            self.put_byte(*byte);
+        }
+        Ok(())
     }
 }
 
-// Cell i as a character, and a newline after the last of a row.
-fn put_cell(n: usize, i: usize, cell: u8, at: usize, output: &mut Text) -> usize
-    requires { (0 < n) × (i < 16384) × (at ≤ 16700) }
-    ensures { result ≤ 16700 }
-{
-    let next = put_byte(if cell == 2 { 63 } else { 48 + cell % 2 }, at, output);
-    if (i + 1) % n == 0 {
-        put_byte(10, next, output)
-    } else {
-        next
+impl Page {
+    pub fn empty() -> Page {
+        Page {
+            bytes: [0; 16700],
+            length: 0,
+        }
+    }
+
+    fn put_byte(&mut self, byte: u8) {
+        if self.length < 16700 {
+            self.bytes[self.length] = byte;
+            self.length += 1;
+        }
+    }
+
+    // The cells of a row as characters, and a newline.
+    fn put_row(&mut self, cells: &[u8]) {
+        for cell in cells {
+            self.put_byte(if *cell == 2 { b'?' } else { b'0' + *cell % 2 });
+        }
+        self.put_byte(b'\n');
+    }
+
+    // The n lines of an array.
+    pub fn put_lines(&mut self, code: Code, cells: &Cells) {
+        let n = code.n;
+        for i in 0..n {
+            self.put_row(&cells[i * n..i * n + n]);
+        }
     }
 }
 
-// The n lines of an array: its cells as characters, and a newline after each row. Gives the place after them.
-pub fn put_lines(n: usize, cells: &Cells, at: usize, output: &mut Text) -> usize
-    requires { (0 < n) × (n ≤ 128) × (at ≤ 16700) }
-    ensures { result ≤ 16700 }
-{
-    let area = area_of(n);
-    let mut next = at;
-    for i in 0..area {
-        next = put_cell(n, i, cells[i], next, output);
+// The cells of the lines of an input. Newlines stand at the ends of lines and nowhere else, so each other byte is the next cell.
+fn read_lines(code: Code, lines: &[u8], cells: &mut Cells) -> Result<(), Refusal> {
+    let n = code.n;
+    ask(
+        lines
+            .iter()
+            .enumerate()
+            .all(|(p, byte)| (*byte == b'\n') == (p % (n + 1) == n)),
+        Refusal::Length,
+    )?;
+    ask(
+        lines
+            .iter()
+            .all(|byte| matches!(*byte, b'\n' | b'0' | b'1' | b'?')),
+        Refusal::Cell,
+    )?;
+    let characters = lines.iter().filter(|byte| **byte != b'\n');
+    for (cell, byte) in cells.iter_mut().zip(characters) {
+        *cell = if *byte == b'?' { 2 } else { *byte % 2 };
     }
-    next
+    Ok(())
 }
 
-// The cell of a character at a place, where a newline has none; gives the next place.
-fn read_byte(byte: u8, at: usize, cells: &mut Cells) -> usize
-    requires { at < 16384 }
-    ensures { result < 16384 }
-{
-    if byte == 10 {
-        at
-    } else {
-        cells[at] = if byte == 63 { 2 } else { byte % 2 };
-        (at + 1) % 16384
-    }
-}
-
-// The refusal number of the lines of an input, whose cells are read. Newlines stand at the ends of lines and nowhere else, so each
-// other byte is the next cell.
-fn read_lines(n: usize, input: &[u8], cells: &mut Cells) -> u64
-    requires { n ≤ 128 }
-    ensures { result ≤ 4 }
-{
-    let long = input.len();
-    let mut newlines = true;
-    let mut characters = true;
-    let mut next = 0;
-    for p in 2..long {
-        let byte = input[p];
-        newlines = newlines & ((byte == 10) == ((p - 1) % (n + 1) == 0));
-        characters = characters & ((byte == 10) | (byte == 48) | (byte == 49) | (byte == 63));
-        next = read_byte(byte, next, cells);
-    }
-    if !newlines {
-        3
-    } else if !characters {
-        4
-    } else {
-        0
-    }
-}
-
-// Is it the digit 4, 6 or 7?
-fn is_degree(byte: u8) -> bool {
-    (byte == 52) | (byte == 54) | (byte == 55)
-}
-
-// The length of an input with a degree's digit, whose number is its last four bits: the first line, and n lines of n cells and a newline.
+// The length of the lines of an input with a degree's digit, whose number is its last four bits: n lines of n cells and a newline.
 fn long_of(digit: u8) -> usize {
-    let n = cells_of((digit % 16) as u64);
-    2 + area_of(n) + n
+    let code = Code::of_degree(u64::from(digit % 16));
+    code.area() + code.n
 }
 
-// The refusal number of an input, whose cells are read.
-fn read_input(n: usize, input: &[u8], cells: &mut Cells) -> u64
-    requires { n ≤ 128 }
-    ensures { result ≤ 4 }
-{
-    let long = input.len();
-    if long < 2 {
-        1
-    } else if (input[1] != 10) | !is_degree(input[0]) {
-        1
-    } else if long != long_of(input[0]) {
-        3
-    } else {
-        read_lines(n, input, cells)
+// The cells of an input.
+fn read_input(code: Code, input: &[u8], cells: &mut Cells) -> Result<(), Refusal> {
+    match input {
+        [digit @ (b'4' | b'6' | b'7'), b'\n', lines @ ..] => {
+            ask(lines.len() == long_of(*digit), Refusal::Length)?;
+            read_lines(code, lines, cells)
+        }
+        _ => Err(Refusal::Degree),
     }
 }
 
-// How many decimal digits a number has.
-fn digit_count(number: u64) -> usize
-    ensures { IsDigitCount number result }
-{
-    let mut many = 1;
-    let mut rest = number / 10;
-    while rest > 0 {
-        rest /= 10;
-        many += 1;
+impl Decoder {
+    // The count, the unsure cells, closed, and the lines of a decoding of one iteration with filling bits of zero.
+    fn put_decoded(&self, received: &Cells, page: &mut Page) -> fmt::Result {
+        let filling = [FillingWord { low: 0, high: 0 }; 256];
+        let mut cells = *received;
+        let words = &filling[..2 * self.code.n];
+        let count = self.decode_array(received, words, &mut cells, &mut Clauses::none());
+        let left = self.faults_in(&cells);
+        let unsure = left.unsure;
+        let closed = u64::from(left.is_closed());
+        writeln!(page, "0 {count} {unsure} {closed}")?;
+        page.put_lines(self.code, &cells);
+        Ok(())
     }
-    many
-}
 
-// Puts the last so many decimal digits of a number at the start of a room, the highest first.
-fn put_digits(number: u64, many: usize, digits: &mut [u8; 20])
-    requires { many ≤ 20 }
-    ensures digits { take many digits.new ≡ last_digits many number }
-    ensures others { drop many digits.new ≡ drop many digits.old }
-{
-    let mut i = many;
-    let mut rest = number;
-    while i > 0 {
-        i -= 1;
-        digits[i] = 48 + (rest % 10) as u8;
-        rest /= 10;
-    }
-}
-
-// Puts the decimal digits of a number at the start of a room, and gives how many there are.
-pub(crate) fn decimal(number: u64, digits: &mut [u8; 20]) -> usize
-    ensures within { result ≤ 20 }
-    ensures count { IsDigitCount number result }
-    ensures digits { take result digits.new ≡ last_digits result number }
-    ensures others { drop result digits.new ≡ drop result digits.old }
-{
-    let many = digit_count(number);
-    put_digits(number, many, digits);
-    many
-}
-
-// A number in decimal, and the byte after it.
-fn put_number(number: u64, end: u8, at: usize, output: &mut Text) -> usize
-    requires { at ≤ 16700 }
-    ensures { result ≤ 16700 }
-{
-    let mut digits = [0u8; 20];
-    let many = decimal(number, &mut digits);
-    let mut next = at;
-    for d in 0..many {
-        next = put_byte(digits[d % 20], next, output);
-    }
-    put_byte(end, next, output)
-}
-
-fn put_numbers(a: u64, b: u64, c: u64, d: u64, output: &mut Text) -> usize
-    ensures { result ≤ 16700 }
-{
-    let second = put_number(a, 32, 0, output);
-    let third = put_number(b, 32, second, output);
-    let fourth = put_number(c, 32, third, output);
-    put_number(d, 10, fourth, output)
-}
-
-// The received array is decoded by one iteration with filling words of zero, and printed.
-fn put_decoded(n: usize, weights: &Weights, received: &Cells, output: &mut Text) -> usize
-    requires { (0 < n) × (n ≤ 128) }
-    ensures { result ≤ 16700 }
-{
-    let filling = [0u64; 10240];
-    let mut tally = [0u64; 32];
-    let mut cells = *received;
-    let count = decode(
-        n,
-        weights,
-        received,
-        &filling,
-        2 * n,
-        &mut cells,
-        &mut tally,
-    );
-    let left = faults_in(n, weights, &cells);
-    let closed = if is_closed(left) { 1 } else { 0 };
-    let next = put_numbers(0, count, left.unsure, closed, output);
-    put_lines(n, &cells, next, output)
-}
-
-// What is printed for an input, and its length.
-pub fn sheet_text(n: usize, weights: &Weights, input: &[u8], output: &mut Text) -> usize
-    requires { (0 < n) × (n ≤ 128) }
-    ensures { result ≤ 16700 }
-{
-    let mut received = [0u8; 16384];
-    let refusal = read_input(n, input, &mut received);
-    if refusal != 0 {
-        put_numbers(refusal, 0, 0, 0, output)
-    } else {
-        put_decoded(n, weights, &received, output)
+    // What is printed for an input.
+    pub fn sheet_text(&self, input: &[u8]) -> Page {
+        let mut received = [0u8; 16384];
+        let mut page = Page::empty();
+        let _ = match read_input(self.code, input, &mut received) {
+            Ok(()) => self.put_decoded(&received, &mut page),
+            Err(why) => {
+                let number = u64::from(why);
+                writeln!(page, "{number} 0 0 0")
+            }
+        };
+        page
     }
 }

@@ -1,113 +1,144 @@
 // What a comparison notes, and how it is printed. A kind of test keeps a tally: how many were tried, agree and differ, and the sum of
-// their results; from place 4 on numbers of its own; from place 8 on how often each clause was met; and from place 17 on how often an
-// array was left almost closed: it fails one of the tests of closed alone. Counts wrap, so that nothing has to be known of them; none
-// comes near 2^64.
-ghost use Rattle.std.specs.Prelude.{◌≡◌, ◌<◌, ◌≤◌, true, length, ◌==◌, slice_index, take, decimal, IfOk, OnOk, OnErr};
+// their results. Beside it stand how often each clause was met, and how often an array was left almost closed: it fails one of the tests of
+// closed alone. Counts wrap, so that nothing has to be known of them; none comes near 2^64.
+ghost use Rattle.std.specs.Prelude.{◌≡◌, ◌≤◌, true, cond, length, ◌==◌, take, drop, decimal, IfOk, OnOk, OnErr};
 ghost use Rattle.std.specs.Io.KnownBytes.{Appends, Keeps};
 ghost use Rattle.laws.specs.Sums.{sum_to};
 ghost use Rattle.second.specs.Working.Lines.{one_where, is_like};
-ghost use Rattle.second.specs.Working.Tallies.{mixed, next, ticked, AppendsPart, said_byte, said_text};
+ghost use Rattle.second.specs.Working.Digits.{last_digits, IsDigitCount};
+ghost use Rattle.second.specs.Working.Tallies.{mixed, next, AppendsPart, said_byte, said_text};
 
-use crate::sheets::decimal;
+use crate::lines::Clause;
 use std::io;
 use std::io::{ErrorKind, Write};
-use std::num::wrapping_add_u64;
-
-pub type Totals = [u64; 32];
-
-pub const OWN: usize = 4;
-
-pub const CLAUSES: usize = 8;
-
-pub const ALMOST_CLOSED: usize = 17;
-
-// The entries, where a test is told which one it tries.
-pub const DECODE: usize = 0;
-
-pub const ENCODE: usize = 1;
-
-pub const EXTRACT: usize = 2;
-
-pub const ROW: usize = 3;
-
-pub const BOUNDED_DISTANCE: usize = 4;
-
-pub const DECODE_LINE: usize = 5;
-
-pub const LINE_MESSAGES: usize = 6;
 
 // A sum of all the numbers mixed into it so far, in their order: it tells two runs apart that saw different results.
 pub fn mix(sum: u64, value: u64) -> u64
     ensures { result ≡ mixed sum value }
 {
-    let a = wrapping_add_u64(wrapping_add_u64(sum, value), 0x9E3779B97F4A7C15);
+    let a = sum.wrapping_add(value).wrapping_add(0x9E3779B97F4A7C15);
     let b = a ^ (a >> 29);
     let c = b ^ (b << 17);
     c ^ (c >> 32)
 }
 
-// One more at a place where the fact holds.
-pub fn tick_if(tally: &mut Totals, place: usize, fact: bool)
-    ensures { tally.new ≡ ticked fact place tally.old }
+// One more where the fact holds.
+pub fn tick_if(count: &mut u64, fact: bool)
+    ensures { count.new ≡ cond fact (next count.old) count.old }
 {
     if fact {
-        let at = place % 32;
-        tally[at] = wrapping_add_u64(tally[at], 1);
+        *count = count.wrapping_add(1);
     }
 }
 
-// How many cells a room for a line of n has that is compared and goes into a sum: 64 at the lower degrees, of which those past n are 0.
-pub fn room_of(n: usize) -> usize
-    ensures { (16 ≤ result) × (result ≤ 128) }
-{
-    if n <= 64 { 64 } else { 128 }
+// How often each clause was met.
+#[derive(Clone, Copy)]
+pub struct Clauses {
+    equal: u64,
+    crowded: u64,
+    both: u64,
+    neither: u64,
+    agreeing: u64,
+    unchanged: u64,
+    open: u64,
+    afresh: u64,
+    channel: u64,
+}
+
+impl Clauses {
+    pub fn none() -> Clauses {
+        Clauses {
+            equal: 0,
+            crowded: 0,
+            both: 0,
+            neither: 0,
+            agreeing: 0,
+            unchanged: 0,
+            open: 0,
+            afresh: 0,
+            channel: 0,
+        }
+    }
+
+    pub fn meet(&mut self, clause: Clause) {
+        let count = match clause {
+            Clause::Equal => &mut self.equal,
+            Clause::Crowded => &mut self.crowded,
+            Clause::Both => &mut self.both,
+            Clause::Neither => &mut self.neither,
+            Clause::Agreeing => &mut self.agreeing,
+            Clause::Unchanged => &mut self.unchanged,
+            Clause::Open => &mut self.open,
+            Clause::Afresh => &mut self.afresh,
+            Clause::Channel => &mut self.channel,
+        };
+        tick_if(count, true);
+    }
+
+    // In the order in which they are printed.
+    pub fn counts(&self) -> [u64; 9] {
+        [
+            self.equal,
+            self.crowded,
+            self.both,
+            self.neither,
+            self.agreeing,
+            self.unchanged,
+            self.open,
+            self.afresh,
+            self.channel,
+        ]
+    }
+}
+
+// What is counted of every kind of test.
+#[derive(Clone, Copy)]
+pub struct Tally {
+    pub tried: u64,
+    pub agree: u64,
+    pub differ: u64,
+    pub sum: u64,
 }
 
 // A cell of a room, which is 0 past the cells that are lent.
 fn cell_at(cells: &[u8], i: usize) -> u64 {
-    if i < cells.len() { wide(cells[i]) } else { 0 }
+    u64::from(cells.get(i).copied().unwrap_or(0))
 }
 
-fn wide(cell: u8) -> u64 {
-    cell as u64
-}
-
-// Compares the cells that the second implementation and a proved entry leave in a room of so many cells, and notes whether they
-// agree, and the numbers beside them. The result is a number and the given cells.
-pub fn note(
-    tally: &mut Totals,
-    own: &[u8],
-    given: &[u8],
-    room: usize,
-    numbers_agree: bool,
-    number: u64,
-)
-    ensures { 0 < length tally.old → slice_index tally.new 0 ≡ next (slice_index tally.old 0) }
-{
-    let mut agreed = numbers_agree;
-    let mut sum = number;
-    for i in 0..room {
-        let cell = cell_at(given, i);
-        agreed = agreed & (cell_at(own, i) == cell);
-        sum = mix(sum, cell);
+impl Tally {
+    pub fn none() -> Tally {
+        Tally {
+            tried: 0,
+            agree: 0,
+            differ: 0,
+            sum: 0,
+        }
     }
-    tick_if(tally, 0, true);
-    tick_if(tally, 1, agreed);
-    tick_if(tally, 2, !agreed);
-    tally[3] = mix(tally[3], sum);
+
+    // Compares the cells that the second implementation and a proved entry leave in a room of so many cells, and notes whether they
+    // agree, and the numbers beside them. The result is a number and the given cells.
+    pub fn note(&mut self, own: &[u8], given: &[u8], room: usize, numbers_agree: bool, number: u64)
+        ensures { self.new.tried ≡ next self.old.tried }
+    {
+        let mut agreed = numbers_agree;
+        let mut sum = number;
+        for i in 0..room {
+            let cell = cell_at(given, i);
+            agreed &= cell_at(own, i) == cell;
+            sum = mix(sum, cell);
+        }
+        tick_if(&mut self.tried, true);
+        tick_if(&mut self.agree, agreed);
+        tick_if(&mut self.differ, !agreed);
+        self.sum = mix(self.sum, sum);
+    }
 }
 
 // Are all cells the same?
 pub fn same(one: &[u8], other: &[u8]) -> bool
     ensures { result ≡ true → one.now ≡ other.now }
 {
-    let mut all = one.len() == other.len();
-    let mut i = 0;
-    while i < one.len() && i < other.len() {
-        all = all & (one[i] == other[i]);
-        i += 1;
-    }
-    all
+    one == other
 }
 
 // One write of at least one byte; gives how many were written. An interrupted write wrote none, and is no error, since it is tried again;
@@ -144,6 +175,40 @@ fn write_bytes<W: Write>(out: &mut W, bytes: &[u8]) -> io::Result<()>
     }
 }
 
+// The digits are put by hand, since std's `write!` may answer an error and then promises nothing of what it wrote.
+
+// How many decimal digits a number has.
+fn digit_count(number: u64) -> usize
+    ensures { IsDigitCount number result × (result ≤ 20) }
+{
+    number.checked_ilog10().map_or(1, |log| log as usize + 1)
+}
+
+// Puts the last so many decimal digits of a number at the start of a room, the highest first.
+fn put_digits(number: u64, many: usize, digits: &mut [u8; 20])
+    requires { many ≤ 20 }
+    ensures digits { take many digits.new ≡ last_digits many number }
+    ensures others { drop many digits.new ≡ drop many digits.old }
+{
+    let mut rest = number;
+    for i in (0..many).rev() {
+        digits[i] = b'0' + (rest % 10) as u8;
+        rest /= 10;
+    }
+}
+
+// Puts the decimal digits of a number at the start of a room, and gives how many there are.
+fn decimal(number: u64, digits: &mut [u8; 20]) -> usize
+    ensures within { result ≤ 20 }
+    ensures count { IsDigitCount number result }
+    ensures digits { take result digits.new ≡ last_digits result number }
+    ensures others { drop result digits.new ≡ drop result digits.old }
+{
+    let many = digit_count(number);
+    put_digits(number, many, digits);
+    many
+}
+
 // Writes a number in decimal.
 fn write_number<W: Write>(out: &mut W, number: u64) -> io::Result<()>
     ensures text { OnOk result (Appends (W.contents out.old) (W.contents out.new) (decimal number)) }
@@ -154,14 +219,14 @@ fn write_number<W: Write>(out: &mut W, number: u64) -> io::Result<()>
     write_bytes(out, &digits[..many])
 }
 
-// Writes a byte, or, for a '#', the number at a place; gives how many numbers were written.
-fn say_byte<W: Write>(out: &mut W, byte: u8, tally: &Totals, place: usize) -> io::Result<usize>
+// Writes a byte, or, for a '#', the number at a place, which is 0 past the last; gives how many numbers were written.
+fn say_byte<W: Write>(out: &mut W, byte: u8, numbers: &[u64], place: usize) -> io::Result<usize>
     ensures count { IfOk result (λ said. (said ≡ one_where (byte == 35)) × (said ≤ 1)) }
-    ensures text { OnOk result (Appends (W.contents out.old) (W.contents out.new) (said_byte byte tally.now place)) }
-    ensures left { OnErr result (AppendsPart (W.contents out.old) (W.contents out.new) (said_byte byte tally.now place)) }
+    ensures text { OnOk result (Appends (W.contents out.old) (W.contents out.new) (said_byte byte numbers.now place)) }
+    ensures left { OnErr result (AppendsPart (W.contents out.old) (W.contents out.new) (said_byte byte numbers.now place)) }
 {
-    if byte == 35 {
-        write_number(out, tally[place % 32])?;
+    if byte == b'#' {
+        write_number(out, numbers.get(place).copied().unwrap_or(0))?;
         Ok(1)
     } else {
         write_bytes(out, &[byte; 1])?;
@@ -169,18 +234,16 @@ fn say_byte<W: Write>(out: &mut W, byte: u8, tally: &Totals, place: usize) -> io
     }
 }
 
-// Writes a line in which each '#' stands for the next number of a tally, from a place on; gives how many numbers were written. An error
-// leaves a part of the front of this text written, and nothing else.
-pub fn say<W: Write>(out: &mut W, line: &[u8], tally: &Totals, from: usize) -> io::Result<usize>
+// Writes a line in which each '#' stands for the next of the numbers; gives how many numbers were written. An error leaves a part of the
+// front of this text written, and nothing else.
+pub fn say<W: Write>(out: &mut W, line: &[u8], numbers: &[u64]) -> io::Result<usize>
     ensures count { IfOk result (λ said. said ≡ sum_to (is_like 35 line.now) (length line.now)) }
-    ensures text { OnOk result (Appends (W.contents out.old) (W.contents out.new) (said_text line.now tally.now from (length line.now))) }
-    ensures left { OnErr result (AppendsPart (W.contents out.old) (W.contents out.new) (said_text line.now tally.now from (length line.now))) }
+    ensures text { OnOk result (Appends (W.contents out.old) (W.contents out.new) (said_text line.now numbers.now (length line.now))) }
+    ensures left { OnErr result (AppendsPart (W.contents out.old) (W.contents out.new) (said_text line.now numbers.now (length line.now))) }
 {
-    let long = line.len();
-    let start = from % 32;
     let mut said = 0;
-    for i in 0..long {
-        said += say_byte(out, line[i], tally, start + said)?;
+    for byte in line {
+        said += say_byte(out, *byte, numbers, said)?;
     }
     Ok(said)
 }

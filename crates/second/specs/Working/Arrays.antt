@@ -1,17 +1,14 @@
 -- Arrays of n by n cells, row after row: lines 0 to n - 1 are the rows, lines n to 2n - 1 the columns.
-use Rattle.std.specs.Prelude.{ℕ, ◌+◌, ◌-◌, ◌*◌, Bool, cond, not, List, length, replicate, ◌==◌, nat_lt, slice_index}
+use Rattle.std.specs.Prelude.{ℕ, ◌+◌, ◌-◌, ◌*◌, Bool, cond, not, List, replicate, take, ◌==◌, nat_lt, slice_index}
+use Rattle.std.specs.List.{list_all}
 use Rattle.laws.specs.Sums.{sum_to}
-use Rattle.laws.specs.Tests.{every}
 use Rattle.second.specs.Working.Codes.{syndrome_of}
-use Rattle.second.specs.Working.Lines.{one_where, is_like}
+use Rattle.second.specs.Working.Lines.{one_where, like}
 use Rattle.second.specs.Working.Loops.{written}
 
 -- each cell is below a bound
-abbrev pub is_below : (bound : ℕ) (cells : List ℕ) → ℕ → Bool
-is_below bound cells i = nat_lt (slice_index cells i) bound
-
-unfoldable pub all_below : (bound : ℕ) (cells : List ℕ) → Bool
-all_below bound cells = every (is_below bound cells) (length cells)
+abbrev pub all_below : (bound : ℕ) (cells : List ℕ) → Bool
+all_below bound cells = list_all (λ x. nat_lt x bound) cells
 
 -- the place of cell j of line i
 abbrev pub place_of : (n i j : ℕ) → ℕ
@@ -30,7 +27,7 @@ abbrev pub is_bad : (n first : ℕ) (weights cells : List ℕ) → ℕ → ℕ
 is_bad n first weights cells i = one_where (not (syndrome_of n weights (taken_line n (first + i) cells) == 0))
 
 abbrev pub unsure_of : (n : ℕ) (cells : List ℕ) → ℕ → ℕ
-unsure_of n cells i = sum_to (is_like 2 (taken_line n i cells)) n
+unsure_of n cells i = like 2 (take n (taken_line n i cells))
 
 -- how many of n lines from line `first` on are no codewords, and how many cells of n rows are unsure
 abbrev pub bad_lines : (n first : ℕ) (weights cells : List ℕ) → ℕ

@@ -1,9 +1,8 @@
 -- Encoding by division by the generator polynomial, a step a turn.
-use Rattle.std.specs.Prelude.{ℕ, zero, suc, ◌+◌, ◌-◌, ◌*◌, ◌/◌, ◌%◌, ◌^◌, cond, List, bit_xor, nat_lt, slice_index, slice_set}
-use Rattle.laws.specs.Sums.{sum_to}
+use Rattle.std.specs.Prelude.{ℕ, zero, suc, ◌+◌, ◌-◌, ◌*◌, ◌/◌, ◌%◌, ◌^◌, cond, List, take, bit_xor, nat_lt, slice_index, slice_set}
 use Rattle.second.specs.Working.Loops.{written}
 use Rattle.second.specs.Working.Codes.{degree_of, generator_of}
-use Rattle.second.specs.Working.Lines.{is_like}
+use Rattle.second.specs.Working.Lines.{like}
 use Rattle.second.specs.Working.Arrays.{taken_line, with_line}
 
 -- 2v
@@ -31,7 +30,7 @@ checked_line n checks line = written (λ i. i) (λ i. checks / 2 ^ i % 2) (first
 unfoldable pub encoded_line : (n : ℕ) (line : List ℕ) → List ℕ
 encoded_line n line =
     let checked = checked_line n (remainder_of n line (n - 1)) line in
-    slice_set checked (n - 1) (sum_to (is_like 1 checked) (n - 1) % 2)
+    slice_set checked (n - 1) (like 1 (take (n - 1) checked) % 2)
 
 -- k lines of an array encoded one after the other
 unfoldable pub encoded_to : (n k : ℕ) (cells : List ℕ) → List ℕ

@@ -1,5 +1,7 @@
 -- A load, step by step: the draws of all places, the marks of the shuffled order brought back to their cells, and the cells that they hit.
-use Rattle.std.specs.Prelude.{◌≡◌, ℕ, zero, suc, ◌+◌, ◌-◌, ◌*◌, ◌/◌, ◌%◌, ◌^◌, ◌<◌, Bool, cond, ◌&&◌, ◌||◌, List, length, replicate, ◌==◌, bit_xor, nat_lt, slice_index, slice_set}
+use Rattle.std.specs.Prelude.{◌≡◌, ℕ, zero, suc, ◌+◌, ◌-◌, ◌*◌, ◌/◌, ◌%◌, ◌^◌, ◌<◌, Bool, cond, ◌&&◌, ◌||◌, List, length, replicate, ◌==◌, bit_xor, nat_lt, slice_index, slice_index_or, swap}
+use Rattle.second.specs.declared.loads.Mark.{Mark}
+use Rattle.second.specs.declared.loads.Mark.TheVariants.{Kept, Inverted, Unsure}
 use Rattle.second.specs.Working.Loops.{written}
 use Rattle.second.specs.Working.Codes.{cells_of}
 use Rattle.second.specs.Working.Arrays.{all_below}
@@ -29,35 +31,33 @@ draw_of seed k = (shifted_times seed k + grown_times k) % 2 ^ 64
 abbrev pub draws_of : (seed area : ℕ) (draws : List ℕ) → List ℕ
 draws_of seed area draws = written (λ k. area - 1 - k) (λ k. draw_of seed (k + 1)) (area - 1) draws
 
--- the mark of place p of the shuffled order: 1 is inverted, 2 unsure, 0 neither
-abbrev pub mark_of : (wrong unsure p : ℕ) → ℕ
-mark_of wrong unsure p = cond (nat_lt p wrong) 1 (cond (nat_lt p (wrong + unsure)) 2 0)
-
--- two places change
-abbrev pub changed : (i j : ℕ) (marks : List ℕ) → List ℕ
-changed i j marks = slice_set (slice_set marks i (slice_index marks j)) j (slice_index marks i)
+-- the mark of place p of the shuffled order
+abbrev pub mark_of : (wrong unsure p : ℕ) → Mark
+mark_of wrong unsure p = cond (nat_lt p wrong) Inverted (cond (nat_lt p (wrong + unsure)) Unsure Kept)
 
 -- places 1 to k change, each with that of its draw
-unfoldable pub changed_to : (draws : List ℕ) (k : ℕ) (marks : List ℕ) → List ℕ
+unfoldable pub changed_to : (draws : List ℕ) (k : ℕ) (marks : List Mark) → List Mark
 changed_to draws zero marks = marks
-changed_to draws (suc k) marks = changed (suc k) (slice_index draws (suc k) % (suc k + 1)) (changed_to draws k marks)
+changed_to draws (suc k) marks = swap (changed_to draws k marks) (suc k) (slice_index draws (suc k) % (suc k + 1))
 
 -- the mark of each cell
-unfoldable pub marked_cells : (area seed wrong unsure : ℕ) → List ℕ
+unfoldable pub marked_cells : (area seed wrong unsure : ℕ) → List Mark
 marked_cells area seed wrong unsure =
-    changed_to (draws_of seed area (replicate 16384 0)) (area - 1) (written (λ p. p) (mark_of wrong unsure) 16384 (replicate 16384 0))
+    changed_to (draws_of seed area (replicate 16384 0)) (area - 1) (written (λ p. p) (mark_of wrong unsure) 16384 (replicate 16384 Kept))
 
 -- the sheet of a message
 unfoldable pub sent_cells : (n : ℕ) (message : List ℕ) → List ℕ
 sent_cells n message = encoded_to n (n + n) (written (message_place n) (λ p. slice_index message p) (message_area n) (replicate 16384 0))
 
-abbrev pub damaged_cell : (cell mark : ℕ) → ℕ
-damaged_cell cell mark = cond (mark == 1) (bit_xor cell 1) (cond (mark == 2) 2 cell)
+abbrev pub damaged_cell : (cell : ℕ) → Mark → ℕ
+damaged_cell cell Kept = cell
+damaged_cell cell Inverted = bit_xor cell 1
+damaged_cell cell Unsure = 2
 
 -- the cells that a call leaves
 unfoldable pub loaded_cells : (n seed wrong unsure : ℕ) (message before : List ℕ) → List ℕ
 loaded_cells n seed wrong unsure message before =
-    written (λ i. i) (λ i. damaged_cell (slice_index (sent_cells n message) i) (slice_index (marked_cells (n * n) seed wrong unsure) i)) (length before) before
+    written (λ i. i) (λ i. damaged_cell (slice_index (sent_cells n message) i) (slice_index_or (marked_cells (n * n) seed wrong unsure) i Kept)) (length before) before
 
 -- the refusal number by the seed and by how many cells are to be hit
 abbrev pub hits_refusal : (n seed wrong unsure : ℕ) → ℕ

@@ -5,8 +5,8 @@ use Rattle.std.specs.Prelude.{ℕ, zero, suc, ◌<◌, List, bit_xor, slice_inde
 abbrev pub Below : (bound : ℕ) → List ℕ → Type 0
 Below bound l = (i : ℕ) → slice_index l i < bound
 
--- k numbers written one after the other: g 0 to place p 0, g 1 to place p 1, ..
-unfoldable pub written : (place value : ℕ → ℕ) → ℕ → List ℕ → List ℕ
+-- k values written one after the other: g 0 to place p 0, g 1 to place p 1, ..
+unfoldable pub written : {A : Type 0} → (place : ℕ → ℕ) (value : ℕ → A) → ℕ → List A → List A
 written p g zero m = m
 written p g (suc k) m = slice_set (written p g k m) (p k) (g k)
 

@@ -4,4 +4,4 @@ use Rattle.second.specs.Working.Loops.{Below}
 use Rattle.damage.proofs.arrays.crossed_line.Given as goal
 
 abbrev pub invariant-loop-j : goal.invariant-loop-j
-invariant-loop-j l = (l.j ≤ l.n) × (Below 3 l.across → Below 3 l.line)
+invariant-loop-j l = (l.j ≤ l.j-end) × (Below 3 l.across → Below 3 l.line)

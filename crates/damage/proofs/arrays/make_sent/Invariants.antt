@@ -4,4 +4,4 @@ use Rattle.second.specs.Working.Loops.{Below}
 use Rattle.damage.proofs.arrays.make_sent.Given as goal
 
 abbrev pub invariant-loop-i : goal.invariant-loop-i
-invariant-loop-i l = (l.i ≤ l.area) × (Below 2 l.initial.cells → Below 2 l.cells)
+invariant-loop-i l = (l.i ≤ l.i-end) × (Below 2 l.initial.cells → Below 2 l.cells)

@@ -6,4 +6,4 @@ use Rattle.second.proofs.blocks.all_sums_right.Goals as goal
 
 pub returns : goal.returns
 unfolding all_sums_right
-returns c = tested_all (sums_right c.args.file.now) c.loop-block.block 3 (omega arith) c.loop-block.invariant.1
+returns c = tested_all (sums_right c.args.file.now) c.loop-number.number 3 (omega arith) c.loop-number.invariant.1

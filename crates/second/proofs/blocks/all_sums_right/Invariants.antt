@@ -4,5 +4,5 @@ use Rattle.laws.specs.Tests.{every}
 use Rattle.second.specs.Working.Blocks.{sums_right}
 use Rattle.second.proofs.blocks.all_sums_right.Given as goal
 
-abbrev pub invariant-loop-block : goal.invariant-loop-block
-invariant-loop-block l = (l.block ≤ 3) × (l.right ≡ every (sums_right l.file) l.block)
+abbrev pub invariant-loop-number : goal.invariant-loop-number
+invariant-loop-number l = (l.number ≤ 3) × (l.right ≡ every (sums_right l.file) l.number)

@@ -13,4 +13,4 @@ pub loop-at-preserved : goal.loop-at-preserved
 loop-at-preserved c =
     let turn = c.loop-at in
     let s = c.args in
-    (search rules, rw c.block_byte.ensures (written_next (λ k. k) (λ k. block_byte s.number s.cells.now (k / 512) (k % 512)) turn.at s.file.now turn.invariant.1), search rules)
+    (search rules, rw c.byte.ensures (written_next (λ k. k) (λ k. block_byte s.number s.cells.now (k / 512) (k % 512)) turn.at s.file.now turn.invariant.1), search rules)

@@ -5,4 +5,4 @@ use Rattle.second.specs.Working.Blocks.{file_cell}
 use Rattle.second.proofs.blocks.put_cells.Given as goal
 
 abbrev pub invariant-loop-i : goal.invariant-loop-i
-invariant-loop-i l = (l.i ≤ l.long) × (l.cells ≡ written (λ k. k) (file_cell l.file) l.i l.initial.cells) × (length l.cells ≡ length l.initial.cells)
+invariant-loop-i l = (l.i ≤ length l.initial.cells) × (l.cells ≡ written (λ k. k) (file_cell l.file) l.i l.initial.cells) × (length l.cells ≡ length l.initial.cells)

@@ -3,5 +3,5 @@ use Rattle.std.proofs.Common.{◌≡◌, ◌≤◌, length}
 use Rattle.second.specs.Working.Blocks.{summed}
 use Rattle.second.proofs.blocks.sum_blocks.Given as goal
 
-abbrev pub invariant-loop-block : goal.invariant-loop-block
-invariant-loop-block l = (l.block ≤ 3) × (l.file ≡ summed l.block l.initial.file) × (length l.file ≡ length l.initial.file)
+abbrev pub invariant-loop-number : goal.invariant-loop-number
+invariant-loop-number l = (l.number ≤ 3) × (l.file ≡ summed l.number l.initial.file) × (length l.file ≡ length l.initial.file)

@@ -9,4 +9,4 @@ unfolding grown_times
 returns c =
     let k = c.args.k in
     let whole : k * 2654435769 * 2 ^ 32 + k * 2135587861 ≡ k * 11400714819323198485 = omega arith in
-    c.wrapping_add_u64.ensures.value ∙ mod-add-mod (k * 2654435769 * 2 ^ 32) (2 ^ 64) (k * 2135587861) ∙ ap (λ (x : ℕ). x % 2 ^ 64) whole
+    rw (c.from-high.ensures, c.from-low.ensures) (mod-add-mod (k * 2654435769 * 2 ^ 32) (2 ^ 64) (k * 2135587861) ∙ ap (λ (x : ℕ). x % 2 ^ 64) whole)

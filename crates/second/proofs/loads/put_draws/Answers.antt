@@ -14,4 +14,4 @@ loop-k-preserved c =
     let turn = c.loop-k in
     let s = c.args in
     let after = c.shift-s.ensures ∙ shifted_next s.seed turn.k turn.invariant.1 in
-    (search rules, after, rw (c.draw.ensures, after) (written_next (λ j. s.area - 1 - j) (λ j. draw_of s.seed (j + 1)) turn.k s.draws.now turn.invariant.2))
+    (search rules, after, rw (c.draw.ensures, after) (written_next (λ j. c.saturating_sub-last.result - j) (λ j. draw_of s.seed (j + 1)) turn.k s.draws.now turn.invariant.2))

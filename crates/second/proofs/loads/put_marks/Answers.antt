@@ -13,4 +13,4 @@ pub loop-p-preserved : goal.loop-p-preserved
 loop-p-preserved c =
     let turn = c.loop-p in
     let s = c.args in
-    (search rules, rw c.mark_of.ensures (written_next (λ k. k) (mark_of s.wrong s.unsure) turn.p s.marks.now turn.invariant.1))
+    (search rules, rw c.mark_of.ensures (written_next (λ k. k) (mark_of s.order.wrong s.order.unsure) turn.p s.marks.now turn.invariant.1))

@@ -6,9 +6,9 @@ use Rattle.second.specs.Working.Lines.{is_like}
 use Rattle.second.specs.Working.Tallies.{said_text}
 use Rattle.second.proofs.tallies.say.Given as goal
 
-abbrev pub invariant-loop-i : goal.invariant-loop-i
-invariant-loop-i g l = record {
-  count : l.said ≡ sum_to (is_like 35 l.line) l.i;
-  few : l.said ≤ l.i;
-  text : Appends (g.W.Write.contents l.initial.out) (g.W.Write.contents l.out) (said_text l.line l.tally l.from l.i);
+abbrev pub invariant-loop-byte : goal.invariant-loop-byte
+invariant-loop-byte g l = record {
+  count : l.said ≡ sum_to (is_like 35 l.line) l.byte-index;
+  few : l.said ≤ l.byte-index;
+  text : Appends (g.W.Write.contents l.initial.out) (g.W.Write.contents l.out) (said_text l.line l.numbers l.byte-index);
 }

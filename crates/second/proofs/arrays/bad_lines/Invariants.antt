@@ -1,8 +1,0 @@
--- `arrays::bad_lines` meets its contract. The loop's invariant: the first lines are counted. Assumes nothing.
-use Rattle.std.proofs.Common.{◌≡◌, ◌≤◌}
-use Rattle.laws.specs.Sums.{sum_to}
-use Rattle.second.specs.Working.Arrays.{is_bad}
-use Rattle.second.proofs.arrays.bad_lines.Given as goal
-
-abbrev pub invariant-loop-i : goal.invariant-loop-i
-invariant-loop-i l = (l.i ≤ l.n) × (l.bad ≡ sum_to (is_bad l.n l.first l.weights l.cells) l.i) × (l.bad ≤ l.i)

@@ -1,8 +1,0 @@
--- `arrays::take_line` meets its contract. The loop's invariant: the first cells are written. Assumes nothing.
-use Rattle.std.proofs.Common.{◌≡◌, ◌≤◌, get_or, replicate}
-use Rattle.second.specs.Working.Loops.{written}
-use Rattle.second.specs.Working.Arrays.{place_of}
-use Rattle.second.proofs.arrays.take_line.Given as goal
-
-abbrev pub invariant-loop-j : goal.invariant-loop-j
-invariant-loop-j l = (l.j ≤ l.n) × (l.line ≡ written (λ k. k) (λ k. get_or l.cells (place_of l.n l.i k) 0) l.j (replicate 128 0))

@@ -1,8 +1,0 @@
--- `codewords::weights_of` meets its contract. The loop's invariant: the first weights are written. Assumes nothing.
-use Rattle.std.proofs.Common.{◌≡◌, ◌≤◌, replicate}
-use Rattle.second.specs.Working.Codes.{weight_of}
-use Rattle.second.specs.Working.Loops.{written}
-use Rattle.second.proofs.codewords.weights_of.Given as goal
-
-abbrev pub invariant-loop-i : goal.invariant-loop-i
-invariant-loop-i l = (l.i ≤ l.last) × (l.weights ≡ written (λ k. k) (weight_of l.n) l.i (replicate 128 0))
