@@ -11,7 +11,7 @@ use second::encoding::Message;
 use second::lines::FillingWord;
 use second::tallies::{Clauses, Tally, mix, same, tick_if};
 
-pub fn note_cells(
+pub(crate) fn note_cells(
     code: Code,
     tally: &mut Tally,
     own: &Cells,
@@ -70,7 +70,7 @@ pub struct Told {
 }
 
 // By the entry: what it tells if the call is not refused. The cells are written.
-pub fn given_decoding(
+pub(crate) fn given_decoding(
     code: Code,
     iterations: usize,
     received: &Cells,
@@ -95,7 +95,7 @@ pub struct Received {
 }
 
 // Sent and damaged in one of the ways.
-pub fn damaged(code: Code, trial: usize, chance: &mut Chance) -> Received {
+pub(crate) fn damaged(code: Code, trial: usize, chance: &mut Chance) -> Received {
     let damage = DAMAGES[trial % DAMAGES.len()];
     let mut sent = [0u8; 16384];
     make_sent(code, chance, &mut sent);
@@ -109,7 +109,7 @@ pub fn damaged(code: Code, trial: usize, chance: &mut Chance) -> Received {
 }
 
 // One that fails one of the tests of closed alone. It counts as restored where decoding leaves it as it was received.
-pub fn almost_closed(code: Code, trial: usize, chance: &mut Chance) -> Received {
+pub(crate) fn almost_closed(code: Code, trial: usize, chance: &mut Chance) -> Received {
     let kind = ALMOST_CLOSED[trial % ALMOST_CLOSED.len()];
     let mut sent = [0u8; 16384];
     make_almost_closed(kind, code, chance, &mut sent);
@@ -136,7 +136,7 @@ pub struct Decodings {
 }
 
 impl Decodings {
-    pub fn none() -> Decodings {
+    pub(crate) fn none() -> Decodings {
         Decodings {
             tally: Tally::none(),
             closed: 0,
@@ -211,7 +211,7 @@ impl Decodings {
     }
 
     // So many arrays, each as it is made by chance.
-    pub fn test_all<F: Fn(usize, &mut Chance) -> Received>(
+    pub(crate) fn test_all<F: Fn(usize, &mut Chance) -> Received>(
         &mut self,
         decoder: &Decoder,
         many: usize,
@@ -226,7 +226,7 @@ impl Decodings {
         }
     }
 
-    pub fn counts(&self) -> [u64; 8] {
+    pub(crate) fn counts(&self) -> [u64; 8] {
         [
             self.tally.tried,
             self.tally.agree,
@@ -239,7 +239,7 @@ impl Decodings {
         ]
     }
 
-    pub fn almost_closed(&self) -> [u64; 3] {
+    pub(crate) fn almost_closed(&self) -> [u64; 3] {
         [self.rows_off, self.columns_off, self.cells_unsure]
     }
 }
@@ -247,7 +247,7 @@ impl Decodings {
 // ---- the other entries on arrays
 
 // A test of sent arrays by chance, each as it was sent and with one of the kinds of damage.
-pub fn test_each<F: Fn(&Cells, &Cells, &mut Tally)>(
+pub(crate) fn test_each<F: Fn(&Cells, &Cells, &mut Tally)>(
     code: Code,
     many: usize,
     test: F,
@@ -263,21 +263,21 @@ pub fn test_each<F: Fn(&Cells, &Cells, &mut Tally)>(
 }
 
 // The message of a sent array.
-pub fn message_of(code: Code, sent: &Cells) -> Message {
+pub(crate) fn message_of(code: Code, sent: &Cells) -> Message {
     let mut message = [0u8; 12769];
     code.extract(sent, &mut message);
     message
 }
 
 // Encodes the message of a sent array anew.
-pub fn test_encode(code: Code, sent: &Cells, tally: &mut Tally) {
+pub(crate) fn test_encode(code: Code, sent: &Cells, tally: &mut Tally) {
     let mut given = [0u8; 16384];
     let taken = given::encode(code, &message_of(code, sent), &mut given).is_ok();
     note_cells(code, tally, sent, &given, taken, 0);
 }
 
 // Takes the message out of a received array, unsure cells too.
-pub fn test_extract(code: Code, received: &Cells, tally: &mut Tally) {
+pub(crate) fn test_extract(code: Code, received: &Cells, tally: &mut Tally) {
     let mut given = [0u8; 12769];
     let taken = given::extract(code, received, &mut given).is_ok();
     let room = Code::room_of(code.n).message_area();
@@ -285,7 +285,7 @@ pub fn test_extract(code: Code, received: &Cells, tally: &mut Tally) {
 }
 
 // Looks up each row.
-pub fn test_rows(code: Code, cells: &Cells, tally: &mut Tally) {
+pub(crate) fn test_rows(code: Code, cells: &Cells, tally: &mut Tally) {
     for i in 0..code.n {
         let given = given::row(code, cells, i).unwrap_or(b"");
         let own = code.take_line(i, cells);

@@ -29,7 +29,7 @@ fn test_reading(number: u16, sheet: &Sheet, file: &File, tally: &mut Tally) {
 }
 
 // Sheets and numbers by chance.
-pub fn test_files(many: usize, writing: &mut Tally, reading: &mut Tally) {
+pub(crate) fn test_files(many: usize, writing: &mut Tally, reading: &mut Tally) {
     let mut chance = Chance { state: 123456789 };
     for _ in 0..many {
         let number = chance.below(65536) as u16;

@@ -9,16 +9,20 @@ use second::encoding::Message;
 use second::lines::FillingWord;
 use second::loads::Order;
 
-pub fn bounded_distance(code: Code, word: &mut Line) -> Result<Option<u64>, Refusal> {
+pub(crate) fn bounded_distance(code: Code, word: &mut Line) -> Result<Option<u64>, Refusal> {
     line::entry::bounded_distance(code.degree(), &mut word[..code.n])
 }
 
-pub fn decode_line(code: Code, line: &mut Line, filling: FillingWord) -> Result<bool, Refusal> {
+pub(crate) fn decode_line(
+    code: Code,
+    line: &mut Line,
+    filling: FillingWord,
+) -> Result<bool, Refusal> {
     let cells = &mut line[..code.n];
     line::entry::decode_line(code.degree(), cells, filling.low, filling.high)
 }
 
-pub fn messages(
+pub(crate) fn messages(
     code: Code,
     incoming: &Line,
     channel: &Line,
@@ -35,7 +39,7 @@ pub fn messages(
     )
 }
 
-pub fn decode(
+pub(crate) fn decode(
     code: Code,
     iterations: usize,
     received: &Cells,
@@ -51,29 +55,34 @@ pub fn decode(
     )
 }
 
-pub fn encode(code: Code, message: &Message, cells: &mut Cells) -> Result<(), Refusal> {
+pub(crate) fn encode(code: Code, message: &Message, cells: &mut Cells) -> Result<(), Refusal> {
     let lent = &message[..code.message_area()];
     array::encoding::encode(code.degree(), lent, &mut cells[..code.area()])
 }
 
-pub fn extract(code: Code, cells: &Cells, message: &mut Message) -> Result<(), Refusal> {
+pub(crate) fn extract(code: Code, cells: &Cells, message: &mut Message) -> Result<(), Refusal> {
     let room = &mut message[..code.message_area()];
     array::extraction::extract(code.degree(), &cells[..code.area()], room)
 }
 
-pub fn row<'a>(code: Code, cells: &'a Cells, i: usize) -> Result<&'a [u8], Refusal> {
+pub(crate) fn row<'a>(code: Code, cells: &'a Cells, i: usize) -> Result<&'a [u8], Refusal> {
     array::rows::look_up(code.degree(), &cells[..code.area()], i)
 }
 
-pub fn write_blocks(number: u16, sheet: &Sheet, file: &mut File) -> Result<(), Refusal> {
+pub(crate) fn write_blocks(number: u16, sheet: &Sheet, file: &mut File) -> Result<(), Refusal> {
     blocks::entry::write_blocks(number, sheet, file)
 }
 
-pub fn read_blocks(file: &File, sheet: &mut Sheet) -> Result<u16, Refusal> {
+pub(crate) fn read_blocks(file: &File, sheet: &mut Sheet) -> Result<u16, Refusal> {
     blocks::entry::read_blocks(file, sheet)
 }
 
-pub fn load(code: Code, order: Order, message: &[u8], cells: &mut [u8]) -> Result<(), Refusal> {
+pub(crate) fn load(
+    code: Code,
+    order: Order,
+    message: &[u8],
+    cells: &mut [u8],
+) -> Result<(), Refusal> {
     load::entry::load(
         code.degree(),
         order.seed,

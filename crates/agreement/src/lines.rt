@@ -65,7 +65,7 @@ impl Damaged {
 // What takes a test asks that it may be called, as each function does that calls a closure.
 
 // Codewords of messages by chance, each made from the one before.
-pub fn each_line<F: FnMut(Damaged)>(code: Code, many: usize, mut test: F)
+pub(crate) fn each_line<F: FnMut(Damaged)>(code: Code, many: usize, mut test: F)
     requires { F.IsAlwaysCallable test }
 {
     let mut chance = Chance {
@@ -90,7 +90,7 @@ fn word_of_digits(code: Code, x: u64) -> Line {
 
 // A word for each pair of the first two check sums, of which there are n times n: the first cells, as many as these have digits, can have
 // every pair, and each once.
-pub fn each_check_sum<F: FnMut(Line)>(code: Code, mut test: F)
+pub(crate) fn each_check_sum<F: FnMut(Line)>(code: Code, mut test: F)
     requires { F.IsAlwaysCallable test }
 {
     for x in 0..code.area() {
@@ -122,7 +122,7 @@ pub struct Words {
 }
 
 impl Words {
-    pub fn none() -> Words {
+    pub(crate) fn none() -> Words {
         Words {
             tally: Tally::none(),
             found: 0,
@@ -133,7 +133,7 @@ impl Words {
     }
 
     // The number that is noted is 0 for a word that is not found, and else 1 more than the cells that are changed.
-    pub fn test(&mut self, decoder: &Decoder, word: Line) {
+    pub(crate) fn test(&mut self, decoder: &Decoder, word: Line) {
         let code = decoder.code;
         let own = decoder.bounded_distance(word);
         let cells = &word[..code.n];
@@ -155,7 +155,7 @@ impl Words {
         tick_if(&mut self.two_changed, changed == Some(2));
     }
 
-    pub fn counts(&self) -> [u64; 8] {
+    pub(crate) fn counts(&self) -> [u64; 8] {
         [
             self.tally.tried,
             self.tally.agree,
@@ -177,14 +177,14 @@ pub struct Lines {
 }
 
 impl Lines {
-    pub fn none() -> Lines {
+    pub(crate) fn none() -> Lines {
         Lines {
             tally: Tally::none(),
             found: 0,
         }
     }
 
-    pub fn test(&mut self, decoder: &Decoder, line: Line, filling: FillingWord) {
+    pub(crate) fn test(&mut self, decoder: &Decoder, line: Line, filling: FillingWord) {
         let own = decoder.decode(line, filling);
         let mut given = line;
         let told = given::decode_line(decoder.code, &mut given, filling);
@@ -199,7 +199,7 @@ impl Lines {
         tick_if(&mut self.found, own.is_some());
     }
 
-    pub fn counts(&self) -> [u64; 5] {
+    pub(crate) fn counts(&self) -> [u64; 5] {
         [
             self.tally.tried,
             self.tally.agree,
@@ -218,14 +218,20 @@ pub struct Messages {
 }
 
 impl Messages {
-    pub fn none() -> Messages {
+    pub(crate) fn none() -> Messages {
         Messages {
             tally: Tally::none(),
             met: Clauses::none(),
         }
     }
 
-    pub fn test(&mut self, decoder: &Decoder, incoming: Line, channel: Line, filling: FillingWord) {
+    pub(crate) fn test(
+        &mut self,
+        decoder: &Decoder,
+        incoming: Line,
+        channel: Line,
+        filling: FillingWord,
+    ) {
         let own = decoder.messages(incoming, channel, filling, &mut self.met);
         let mut given = [0u8; 128];
         let told = given::messages(decoder.code, &incoming, &channel, filling, &mut given);

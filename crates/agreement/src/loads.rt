@@ -37,7 +37,7 @@ fn test_draws(seed: u64, many: u32, tally: &mut Tally) {
     }
 }
 
-pub fn test_seeds(seeds: u64, many: u32, tally: &mut Tally) {
+pub(crate) fn test_seeds(seeds: u64, many: u32, tally: &mut Tally) {
     for trial in 0..seeds {
         test_draws(seed_of(trial), many, tally);
     }
@@ -145,7 +145,7 @@ pub struct Loads {
 }
 
 impl Loads {
-    pub fn none() -> Loads {
+    pub(crate) fn none() -> Loads {
         Loads {
             tally: Tally::none(),
             hits: so_many(0, 0),
@@ -173,14 +173,14 @@ impl Loads {
         self.hits.unsure = self.hits.unsure.wrapping_add(hit.unsure);
     }
 
-    pub fn test_all(&mut self, code: Code, many: u64) {
+    pub(crate) fn test_all(&mut self, code: Code, many: u64) {
         let mut chance = Chance { state: 362436069 };
         for trial in 0..many {
             self.test(code, trial, &mut chance);
         }
     }
 
-    pub fn counts(&self) -> [u64; 6] {
+    pub(crate) fn counts(&self) -> [u64; 6] {
         [
             self.tally.tried,
             self.tally.agree,
@@ -250,7 +250,7 @@ impl Acceptance {
         }
     }
 
-    pub fn of(code: Code) -> Acceptance {
+    pub(crate) fn of(code: Code) -> Acceptance {
         let mut run = Acceptance {
             sheets: 0,
             cells: 0,
@@ -265,7 +265,7 @@ impl Acceptance {
         run
     }
 
-    pub fn counts(&self, degree: u64) -> [u64; 6] {
+    pub(crate) fn counts(&self, degree: u64) -> [u64; 6] {
         [
             degree,
             self.sheets,

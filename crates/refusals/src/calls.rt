@@ -11,7 +11,7 @@ pub type Digits = [usize; 8];
 // How many more values than 0 each digit has.
 pub type More = [u8; 8];
 
-pub fn digits_of(more: &More, t: usize) -> Digits {
+pub(crate) fn digits_of(more: &More, t: usize) -> Digits {
     let mut digits = [0usize; 8];
     let mut rest = t;
     for (digit, more) in digits.iter_mut().zip(more) {
@@ -68,7 +68,7 @@ const LENGTHS: [Length; 4] = [
 pub type Room = [u8; 16385];
 
 // The cells before a call: all are one cell, but digit 1 says that the first of so many is spoilt, and digit 2 the last.
-pub fn prepared(long: usize, cell: u8, digit: usize, spoilt: u8) -> Room
+pub(crate) fn prepared(long: usize, cell: u8, digit: usize, spoilt: u8) -> Room
     requires { long ≤ 16385 }
 {
     let mut room = [cell; 16385];
@@ -88,7 +88,7 @@ pub struct Refusals {
 }
 
 impl Refusals {
-    pub fn none() -> Refusals {
+    pub(crate) fn none() -> Refusals {
         Refusals {
             tally: Tally::none(),
             told: [0; 10],
@@ -96,7 +96,7 @@ impl Refusals {
     }
 
     // One more with a number, of which 0 is taken.
-    pub fn count(&mut self, number: u64) {
+    pub(crate) fn count(&mut self, number: u64) {
         tick_if(&mut self.told[(number % 10) as usize], true);
     }
 }
@@ -275,7 +275,7 @@ fn seen_call(entry: Entry, by: Numbers, digits: Digits) -> Seen {
 
 impl Refusals {
     // One call, and what is to be given. The first row, the last, the one after it, and a number that no array has.
-    pub fn test(&mut self, entry: Entry, degree: u64, iterations: u64, digits: Digits) {
+    pub(crate) fn test(&mut self, entry: Entry, degree: u64, iterations: u64, digits: Digits) {
         let n = Code::of_degree(degree).n;
         let [_, _, _, _, _, row, _, _] = digits;
         let rows = [0, n.saturating_sub(1), n, usize::MAX];
@@ -293,7 +293,7 @@ impl Refusals {
     }
 
     // All calls of an entry with a lot of degrees.
-    pub fn test_all(&mut self, entry: Entry, lot: &Lot, many: usize) {
+    pub(crate) fn test_all(&mut self, entry: Entry, lot: &Lot, many: usize) {
         for t in 0..many {
             let digits = digits_of(&entry.more(), t);
             let [degree, iterations, _, _, _, _, _, _] = digits;
@@ -302,7 +302,7 @@ impl Refusals {
     }
 
     // Calls of decode at each degree, with 1 and with 20 iterations and half the filling numbers.
-    pub fn test_halves(&mut self) {
+    pub(crate) fn test_halves(&mut self) {
         for iterations in [1, 20] {
             for degree in [4, 6, 7] {
                 self.test(Entry::Decode, degree, iterations, [0, 0, 0, 3, 0, 0, 0, 0]);

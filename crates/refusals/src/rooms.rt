@@ -106,7 +106,7 @@ impl Refusals {
         self.note(&own, &given, FILE_CELLS);
     }
 
-    pub fn test_writes(&mut self, many: usize) {
+    pub(crate) fn test_writes(&mut self, many: usize) {
         for t in 0..many {
             self.test_write(t);
         }
@@ -128,7 +128,7 @@ impl Refusals {
     }
 
     // Every so many-th of the calls that read.
-    pub fn test_reads(&mut self, many: usize, step: usize) {
+    pub(crate) fn test_reads(&mut self, many: usize, step: usize) {
         let mut chance = Chance { state: 1812433253 };
         for t in 0..many {
             let digits = digits_of(&READING, t.wrapping_mul(step));
@@ -141,7 +141,7 @@ impl Refusals {
     }
 
     // A sheet of zeros whose number makes a sum of block 0 zero, as it is and with 255 for that sum, which is the same number modulo 255.
-    pub fn test_zero_sum(&mut self, number: u64, at: usize)
+    pub(crate) fn test_zero_sum(&mut self, number: u64, at: usize)
         requires { at < 1536 }
     {
         let mut file = file_of(number, [0u8; 4096]);
@@ -214,7 +214,7 @@ impl Refusals {
         self.note(&own, &given, long + 1);
     }
 
-    pub fn test_loads(&mut self, many: usize) {
+    pub(crate) fn test_loads(&mut self, many: usize) {
         for t in 0..many {
             self.test_load(t);
         }

@@ -110,7 +110,7 @@ impl Refusals {
     }
 
     // The texts of arrays, spoilt or not.
-    pub fn test_texts(&mut self, decoder: &Decoder, many: usize) {
+    pub(crate) fn test_texts(&mut self, decoder: &Decoder, many: usize) {
         let code = decoder.code;
         let mut chance = Chance { state: 362436069 };
         for trial in 0..many {
@@ -133,7 +133,7 @@ impl Refusals {
     }
 
     // The text of one array, with each digit as its first line.
-    pub fn test_first_lines(&mut self, decoder: &Decoder) {
+    pub(crate) fn test_first_lines(&mut self, decoder: &Decoder) {
         let code = decoder.code;
         let mut cells = [0u8; 16384];
         make_sent(code, &mut Chance { state: 362436069 }, &mut cells);
