@@ -1,5 +1,6 @@
--- Encoding an array: it gives the one array that holds the message and has a codeword in each row and column; taking the message
--- out of it gives the message back. Checks on checks are equal whether rows or columns are worked first. Each cell is a sum over the message, in either order.
+-- Encoding an array. Document 00, demand 2: encoding gives the one array that holds the message and has a codeword in each
+-- row and column; taking the message out of it gives the message back. Document 01, "The code": checks on checks are equal
+-- whether rows or columns are worked first. Each cell is a sum over the message, in either order.
 -- Assumes nothing.
 use mathlib.Core.Path.{◌≡◌, sym, ap, ◌∙◌, subst}
 use mathlib.Core.List.{List}
@@ -227,7 +228,7 @@ module _ (d : Degree) where
     pub encode_only : (m : List ℕ) → extracted d s ≡ m → s ≡ encode_array d m
     encode_only m e = encode_extract ∙ ap (encode_array d) e
 
-  -- ---- the one array of a message
+  -- ---- demand 2: the one array of a message
 
   -- an array that holds a message, cell by cell, has it taken out of it
   holds_out : (s m : List ℕ) → length s ≡ n * n → length m ≡ k * k → Holds d s m → extracted d s ≡ m

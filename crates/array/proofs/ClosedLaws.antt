@@ -1,4 +1,4 @@
--- Closed says no less and no more than this: no cell is unsure, and each row and each column is a codeword.
+-- Closed says no less and no more than document 02: no cell is unsure, and each row and each column is a codeword.
 -- Assumes nothing.
 use mathlib.Core.Path.{◌≡◌, sym, ap, ap₂, ◌∙◌}
 use mathlib.Core.Bool.{true, false, ◌&&◌, true≢false, not-eq-not}

@@ -60,7 +60,7 @@ module _ (d : Degree) (r : List ℕ) where
   count_add (suc a) b m w =
       rw (suc-add a b, ← rest_words a w, count_add a b (column_half d (row_half d m r w) r (drop (size d) w)) (drop (each d) w)) (sym (add_assoc _ _ _))
 
--- ---- the example, degree 4: rows 0 and 1 have ones at 0 and 4 and unsure cells 6 and 7, a tie; all other cells are 0
+-- ---- the example, degree 4: rows 0 and 1 are document 01's P7, ones at 0 and 4 and unsure cells 6 and 7; all other cells are 0
 
 abbrev pub two_tied : List ℕ
 two_tied = p7 ++ (p7 ++ replicate 224 0)

@@ -1,4 +1,4 @@
--- The table of refusals, by its examples, and calls with several faults, which give the lowest number.
+-- Document 01's table of refusals, by its examples, and calls with several faults, which give the lowest number.
 -- Assumes nothing.
 use mathlib.Core.Path.{◌≡◌, refl}
 use mathlib.Core.Bool.{Bool}

@@ -1,4 +1,5 @@
--- Sent arrays: they are just the product codewords, so the plain decoding of an array near one ends with it: for every sent array made by encoding, if in each received row twice the wrong bits plus the unsure ones, against
+-- Sent arrays: they are just the product codewords, so the plain decoding of an array near one ends with it. Document 00,
+-- demand 3: for every sent array made by encoding, if in each received row twice the wrong bits plus the unsure ones, against
 -- that array, is below 6, then the cells left are that array's and it is marked closed. Closed arrays are just the sent ones:
 -- which of them was sent closed does not tell.
 -- Assumes nothing.

@@ -83,8 +83,8 @@ zero_twice w =
     count_add Four zero_sheet 1 1 zero_sheet w
     ∙ rw (plain_kept Four zero_sheet zero_sent zero_sheet zero_array 1 w, zero_once w, zero_once (drop 32 w)) refl
 
--- ---- 16 rows with ones at 0 and 4 and unsure cells 6 and 7: a tie, which filling bits of 0 decide for zeros and filling bits of 1 for
--- word_g
+-- ---- 16 rows that are document 01's P7, ones at 0 and 4 and unsure cells 6 and 7: a tie, which filling bits of 0 decide for zeros and
+-- filling bits of 1 for word_g (P8)
 
 abbrev pub tied_rows : List ℕ
 tied_rows = lines (λ i. p7) 16

@@ -1,5 +1,5 @@
 -- The array theorem: the plain decoding of an array whose rows are near those of a product codeword ends with that codeword,
--- and it is closed. Also what every half and every plain decoding keeps, and the bound
+-- and it is closed. Document 00, demand 3, last sentence. Also what every half and every plain decoding keeps, and the bound
 -- of the count.
 -- Assumes nothing.
 use mathlib.Core.Path.{◌≡◌, refl, ap, ◌∙◌}

@@ -1,4 +1,4 @@
--- Encoding, and taking the message out: message cells of a line are 2v to n - 2; a k by k message
+-- Encoding, and taking the message out. Document 01, "The code": message cells of a line are 2v to n - 2; a k by k message
 -- fills rows and columns 2v to n - 2 of the array; all else is check.
 use Rattle.std.specs.Prelude.{◌≡◌, List, ℕ, ◌+◌, ◌*◌, ◌<◌, length, take, drop, get_or}
 use Rattle.degree.specs.declared.Degree.{Degree}
@@ -38,7 +38,7 @@ pub record ProductCodeword (d : Degree) (s : List ℕ) : Type 0 where
   pub rows : (i : ℕ) → i < size d → Codeword d (line (size d) s i)
   pub columns : (j : ℕ) → j < size d → Codeword d (column (size d) s j)
 
--- "the one array that holds the message and has a codeword in each row and column; taking the message out of it gives the
+-- demand 2: "the one array that holds the message and has a codeword in each row and column; taking the message out of it gives the
 -- message back"
 pub record OneArray (d : Degree) (message array : List ℕ) : Type 0 where
   pub codewords : ProductCodeword d array
@@ -46,7 +46,7 @@ pub record OneArray (d : Degree) (message array : List ℕ) : Type 0 where
   pub only : (other : List ℕ) → ProductCodeword d other → Holds d other message → other ≡ array
   pub back : extracted d array ≡ message
 
--- A sent array is one that encoding gives for some message.
+-- Document 01, "The array": a sent array is one that encoding gives for some message.
 pub record SentArray (d : Degree) (s : List ℕ) : Type 0 where
   pub message : List ℕ
   pub bits : IsWord (message_size d * message_size d) message

@@ -1,4 +1,4 @@
--- What the entries on arrays promise: the answer in numbers, and every lent cell at exit, for taken and refused
+-- What the entries on arrays promise: the answer in document 01's numbers, and every lent cell at exit, for taken and refused
 -- calls alike. Of a refused call "every lent cell keeps its value", "closed is no, and the unsure cells and any further number
 -- reported are 0".
 use Rattle.std.specs.Prelude.{◌≡◌, Bool, true, false, List, [], ℕ, ◌+◌, ◌*◌, ◌^◌, ◌≤◌, Some, Result, Ok, Err}
@@ -18,7 +18,7 @@ use Rattle.array.specs.Refusals.{coding_tests, row_tests, decode_tests}
 pub record Encoded (degree : ℕ) (message before after : List ℕ) (no : ℕ) : Type 0 where
   pub refusal : no ≡ refusal (coding_tests 1 degree message before message)
   pub cells : after ≡ given degree (coding_tests 1 degree message before message) (λ d. encode_array d message) before
-  -- of a call that is taken
+  -- demand 2, of a call that is taken
   pub one : (d : Degree) → no ≡ 0 → named degree ≡ Some d → OneArray d message after
 
 pub record Extracted (degree : ℕ) (cells before after : List ℕ) (no : ℕ) : Type 0 where
@@ -32,7 +32,7 @@ row_refusal degree cells index = refusal (row_tests degree cells index [])
 abbrev pub row_part : (degree : ℕ) (cells : List ℕ) (index : ℕ) → List ℕ
 row_part degree cells index = given degree (row_tests degree cells index []) (λ d. line (size d) cells index) []
 
--- ---- the answer of decode in numbers: the refusal, 0 for none; the count; the unsure cells; closed
+-- ---- the answer of decode in document 01's numbers: the refusal, 0 for none; the count; the unsure cells; closed
 
 abbrev pub decode_numbers : Result Report Refusal → ℕ × ℕ × ℕ × Bool
 decode_numbers (Err why) = (number why, 0, 0, false)
@@ -49,5 +49,5 @@ pub record DecodeDone (degree l : ℕ) (r w before : List ℕ) (more : List Bool
   pub erasures : (decode_numbers a).2 ≡ given degree (decode_tests degree l r w before more) (λ d. erasures_in (plain d l r r (fillings w))) 0
   pub closed : (decode_numbers a).3 ≡ given degree (decode_tests degree l r w before more) (λ d. closed_in d (plain d l r r (fillings w))) false
   pub cells : after ≡ given degree (decode_tests degree l r w before more) (λ d. plain d l r r (fillings w)) before
-  -- for every sent array s near which each received row is, the cells left are those of s, and closed
+  -- demand 3, last sentence: for every sent array s near which each received row is, the cells left are those of s, and closed
   pub sent : (d : Degree) (s : List ℕ) → (decode_numbers a).0 ≡ 0 → named degree ≡ Some d → SentArray d s → RowCondition d r s → (after ≡ s) × ((decode_numbers a).3 ≡ true)

@@ -1,4 +1,4 @@
--- A half of the plain decoding: m is the array before the half, r the received one, w the filling words
+-- A half of the plain decoding. Document 01, "The array": m is the array before the half, r the received one, w the filling words
 -- of its lines in their order.
 use Rattle.std.specs.Prelude.{List, ℕ, get_or}
 use Rattle.laws.specs.Sums.{sum_to}

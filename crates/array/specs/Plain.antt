@@ -1,4 +1,4 @@
--- The plain decoding: what the decoder is compared with. It is fed the received array r, the number of
+-- The plain decoding. Document 01, "The array": what demand 3 compares with. It is fed the received array r, the number of
 -- iterations l and the filling words w. Its state is an array m, at first r.
 use Rattle.std.specs.Prelude.{Bool, ◌&&◌, List, [], ◌∷◌, ℕ, zero, suc, ◌+◌, ◌*◌, ◌<◌, eqb, drop}
 use Rattle.laws.specs.Tests.{every}
@@ -9,7 +9,7 @@ use Rattle.line.specs.Codeword.{is_codeword}
 use Rattle.array.specs.Arrays.{line, column}
 use Rattle.array.specs.Halves.{row_half, column_half, row_count, column_count}
 
--- the filling words, lent as two numbers each, the low word first
+-- the filling words, lent as two numbers each: document 02, W-212, "low word first"
 unfoldable pub fillings : List ℕ → List ℕ
 fillings [] = []
 fillings (low ∷ []) = []
@@ -29,7 +29,7 @@ module _ (d : Degree) where
       row_count d m r w + column_count d (row_half d m r w) r (drop (size d) w)
       + plain_count l (column_half d (row_half d m r w) r (drop (size d) w)) r (drop (size d + size d) w)
 
-  -- closed: no cell is unsure and each row and each column is a codeword
+  -- closed, as document 02 has it (W-203): no cell is unsure and each row and each column is a codeword
   unfoldable pub closed : List ℕ → Bool
   closed m =
       eqb (erasures m) 0

@@ -1,4 +1,4 @@
--- When a call on an array is turned down: the tests of the entries, each its number and whether it applies. Tests run
+-- When a call on an array is turned down: the tests of the entries, each its number and whether it applies. Document 01: tests run
 -- in number order; the first that applies is returned. Here n is 2 to the power of the degree and k is n - 1 - 2 × the degree.
 -- `more` says of further lent slices whether their length is wrong.
 use Rattle.std.specs.Prelude.{Bool, not, ◌||◌, List, [], ◌∷◌, ℕ, ◌-◌, ◌*◌, ◌^◌, eqb, ltb, leb, length}

@@ -10,6 +10,7 @@ use crate::packing::PackedRows;
 use crate::report::{Report, report_of};
 use degree::Degree;
 use line::tables::{LineEntries, LineTables};
+use words::copying::copy_cells;
 
 // Messages start as the channel's. The channel's rows and columns are packed once, for all iterations.
 fn decode_by(
@@ -23,7 +24,7 @@ fn decode_by(
     ensures { DecodingDone tables.now.degree iterations received.now (fillings filling.now) cells.new result }
 {
     let d = tables.degree;
-    cells.copy_from_slice(received);
+    copy_cells(received, cells);
     let mut across = PackedRows::empty();
     across.pack(d, received);
     let mut down = across;

@@ -52,12 +52,13 @@ pub fn encode_array(d: Degree, message: &[u8], cells: &mut [u8])
     requires { IsWord (message_size d * message_size d) message.now × (length cells.old ≡ size d * size d) }
     ensures { cells.new ≡ encode_array d message.now }
 {
-    let units = UnitTable::new(d);
+    let mut room = Grid::zero();
+    let units = UnitTable::new(d, &mut room);
     let mut words = Grid::zero();
     encode_rows(&units, message, &mut words);
     let n = size_of(d);
     let k = Line::message_cells(d);
-    write_rows(n, k, &units.words, &words, cells);
+    write_rows(n, k, units.words, &words, cells);
 }
 
 // Entry: encodes the message of k by k bits into the n by n cells.

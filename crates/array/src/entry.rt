@@ -17,6 +17,8 @@ pub fn decode(
 ) -> Result<Report, Refusal>
     ensures { DecodeDone degree iterations received.now filling.now cells.old [] cells.new result }
 {
-    let d = decode_test(degree, iterations, received, filling, cells)?;
-    Ok(decode_array(d, iterations as usize, received, filling, cells))
+    match decode_test(degree, iterations, received, filling, cells) {
+        Ok(d) => Ok(decode_array(d, iterations as usize, received, filling, cells)),
+        Err(why) => Err(why),
+    }
 }

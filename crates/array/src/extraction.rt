@@ -10,6 +10,7 @@ use crate::refusals::coding_test;
 use degree::{Degree, size_of};
 use line::packed::Line;
 use line::refusals::Refusal;
+use words::copying::copy_cells;
 
 // The message cells, row after row.
 fn extract_message(d: Degree, cells: &[u8], message: &mut [u8])
@@ -22,7 +23,7 @@ fn extract_message(d: Degree, cells: &[u8], message: &mut [u8])
     for i in 0..k {
         let from = (p + i) * n + p;
         let to = i * k;
-        message[to..to + k].copy_from_slice(&cells[from..from + k]);
+        copy_cells(&cells[from..from + k], &mut message[to..to + k]);
     }
 }
 

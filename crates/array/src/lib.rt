@@ -5,7 +5,7 @@ pub mod encoding; // encode
 pub mod extraction; // extract
 pub mod rows; // the look-up of a row
 pub mod refusals; // the tests of the calls
-mod packing; // the rows of an array, packed in words
+pub mod packing; // the rows of an array, packed in words
 mod halves; // the row half and the column half
 mod iterations; // the iterations of a decoding
 pub mod report; // what is told of the array that a decoding leaves

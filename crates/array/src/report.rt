@@ -35,17 +35,17 @@ fn all_codewords(rows: &PackedRows, columns: &PackedRows, tables: &LineTables) -
     ensures { (m : List ℕ) → IsFull tables.now.degree m → Held (size tables.now.degree) m rows.now → Held (size tables.now.degree) (transpose (size tables.now.degree) (size tables.now.degree) m) columns.now → result ≡ lines_to tables.now.degree m (size tables.now.degree) }
 {
     let n = size_of(tables.degree);
-    for i in 0..n {
+    let mut all = true;
+    let mut i = 0;
+    while i < n && all {
         let row = rows.line(i);
         let column = columns.line(i);
         let across = is_codeword(row.ones, tables);
         let down = is_codeword(column.ones, tables);
-        let all = across & down;
-        if !all {
-            return false;
-        }
+        all = across & down;
+        i += 1;
     }
-    true
+    all
 }
 
 // Lines are looked at only where no cell is unsure: the words of their ones are then the lines.

@@ -18,7 +18,7 @@ pub fn look_up<'a>(degree: u64, cells: &'a [u8], index: usize) -> Result<&'a [u8
     Ok(&cells[at..at + n])
 }
 
-// This and the next stay beside `look_up`, for they cannot fail: the call for C tells the number and the place of an empty part.
+// This and the next stand beside `look_up`: they cannot fail, and tell a refused look-up by its number and by an empty part.
 
 // Entry: the refusal number of a look-up, 0 for none.
 pub fn row_refusal(degree: u64, cells: &[u8], index: usize) -> u64

@@ -1,5 +1,5 @@
--- Sheets in blocks: "The recorder keeps a degree 6 sheet as three blocks of 512 bytes." A file is a list of bytes, and its sheet
--- 64 rows of 64 cells in one list, row after row.
+-- Sheets in blocks. Document 02, W-201: "The recorder keeps a degree 6 sheet as three blocks of 512 bytes." A file is a list of bytes,
+-- and its sheet 64 rows of 64 cells in one list, row after row.
 use Rattle.std.specs.Prelude.{Bool, cond, ◌&&◌, List, [], ◌∷◌, ◌++◌, ℕ, zero, suc, ◌+◌, ◌-◌, ◌*◌, ◌/◌, ◌%◌, eqb, length, take, drop, replicate}
 use Rattle.laws.specs.Tests.{every}
 use Rattle.line.specs.Cells.{cell as byte}

@@ -1,4 +1,5 @@
--- The degree of the field, and the numbers that go with it: degree v is 4, 6 or 7, and n is 2 to the power v.
+-- The degree of the field, and the numbers that go with it.
+-- Document 01, "The code": degree v is 4 or 6, and by document 02, W-212, 7 too; n is 2 to the power v.
 use Rattle.std.specs.Prelude.{◌≡◌, cond, ℕ, ◌-◌, ◌^◌, eqb, Option, None, Some, Result, MatchResult}
 use Rattle.degree.specs.declared.Degree.{Degree}
 use Rattle.degree.specs.declared.Degree.TheVariants.{Four, Six, Seven}
@@ -18,7 +19,7 @@ size d = 2 ^ bits d
 abbrev pub order : Degree → ℕ
 order d = size d - 1
 
--- the degree that a number names, if it names one
+-- the degree that a number names, if it names one (W-212: "Refusal 1 now tells degrees other than 4, 6 and 7")
 abbrev pub named : ℕ → Option Degree
 named v = cond (eqb v 4) (Some Four) (cond (eqb v 6) (Some Six) (cond (eqb v 7) (Some Seven) None))
 

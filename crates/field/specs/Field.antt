@@ -1,4 +1,4 @@
--- The field of n elements: it is made by a root α of the polynomial, over two elements.
+-- The field of n elements. Document 01, "The code": the field is made by a root α of the polynomial, over two elements.
 -- An element is a number below n whose bit i is the coefficient of α^i; the sum of two elements is their exclusive or.
 use Rattle.std.specs.Prelude.{ℕ, zero, suc, ◌*◌, ◌/◌, ◌%◌}
 use Rattle.std.specs.Int.Bits.{bit_xor}
@@ -6,7 +6,7 @@ use Rattle.degree.specs.declared.Degree.{Degree}
 use Rattle.degree.specs.Degree.{size}
 use Rattle.degree.specs.declared.Degree.TheVariants.{Four, Six, Seven}
 
--- the polynomial whose root is α, bit i the coefficient of α^i: α^4 + α + 1, α^6 + α + 1, and α^7 + α^3 + 1
+-- the polynomial whose root is α, bit i the coefficient of α^i: α^4 + α + 1, α^6 + α + 1, and α^7 + α^3 + 1 (document 02, W-212)
 abbrev pub polynomial : Degree → ℕ
 polynomial Four = 19
 polynomial Six = 67

@@ -1,4 +1,4 @@
--- The check sums of a list of cells. Of a codeword all three are 0:
+-- The check sums of a list of cells. Document 01, "The code", says of a codeword that all three are 0:
 -- the sum of α^i over cells i below n - 1 that hold 1, the sum of α^(3i) over the same cells, and the parity of all n cells.
 use Rattle.std.specs.Prelude.{List, ℕ, ◌*◌, ◌%◌, take}
 use Rattle.laws.specs.Digits.{sum_over, ones_in}

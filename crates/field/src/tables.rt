@@ -7,14 +7,15 @@ ghost use Rattle.field.specs.Field.{power};
 ghost use Rattle.field.specs.Working.Tables.{Weights, Logs, Sums, Empty, Filled, weight};
 ghost use Rattle.field.specs.Working.Building.{Block};
 
-use crate::alpha::{powers_of, reduced};
+use crate::alpha::powers_of;
+pub use crate::alpha::reduced;
 use degree::{Degree, order_of, size_of};
 use words::word::Word;
 use words::word::sums::byte_sum;
 
 // Room for the numbers of the tables. They stay where it is made, and the tables refer to them: the tables by value would be
 // copied, which takes longer than to make them.
-#[derive(Drop)]
+#[derive(Clone, Copy)]
 pub struct FieldEntries {
     weights: [u16; 128], // of each cell of a word: its check sums side by side in one number, so that one look-up adds all three
     logs: [u16; 128], // of each element but 0: its exponent

@@ -1,4 +1,4 @@
--- How many cells bounded-distance decoding changes. 0, 1 or 2, and 0 where it fails.
+-- How many cells bounded-distance decoding changes. Document 02, W-202: "0, 1 or 2, and 0 where it fails".
 -- Assumes nothing.
 use mathlib.Core.Path.{◌≡◌, refl, sym, ap, ◌∙◌, subst}
 use mathlib.Core.Logic.{◌⊎◌, inl, inr, ◌↔◌}

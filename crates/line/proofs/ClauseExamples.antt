@@ -1,4 +1,4 @@
--- Small lines of degree 4, one for each clause, as one table: so that no clause can be left out, put in another's place or
+-- Small lines of degree 4, one for each clause of document 01, as one table: so that no clause can be left out, put in another's place or
 -- counted otherwise, in the definition and in the code alike.
 -- Assumes nothing.
 use mathlib.Core.Path.{◌≡◌, refl}

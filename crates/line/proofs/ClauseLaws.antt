@@ -292,7 +292,7 @@ module _ {n : ℕ} {Code : List ℕ → Type 0} {dec : List ℕ → Answer} (D :
         go false ep q eq true et false eu = absurd (true≢false (sym (afresh ep et) ∙ eu))
         go false ep q eq false et false eu = z_cell
 
--- the first clause that fits settles the cell
+-- document 01, "Outgoing messages": the first clause that fits settles the cell
 pub clause_settles : (d : Degree) (y r : List ℕ) (f k : ℕ) → IsLine (size d) y → IsLine (size d) r → k < size d
     → message (bounded d) y r f k ≡ settled (bounded d) y r f k (clause (bounded d) y r f k)
 clause_settles d = message_settled (bounded_decoder d)

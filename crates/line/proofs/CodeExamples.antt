@@ -1,4 +1,4 @@
--- The code in numbers: the sizes of each degree, and a codeword of each by its cells.
+-- Document 01, "The code", and document 02, W-212, in numbers: the sizes of each degree, and a codeword of each by its cells.
 -- Assumes nothing.
 use mathlib.Core.Path.{◌≡◌, refl}
 use mathlib.Core.Bool.{true}
@@ -14,7 +14,7 @@ use Rattle.line.specs.Codeword.{is_codeword}
 use Rattle.line.specs.Encoding.{check_size, message_size}
 use Rattle.line.proofs.Examples.{zeros, word_g}
 
--- n is 2 to the power v; k = n - 1 - 2v, from cell 2v on, is 7, 51 and 113
+-- n is 2 to the power v; "k = n - 1 - 2v: 7 or 51", from cell 2v on; W-212: "n = 128: degree 7", "k = 113"
 pub sizes_four : (size Four ≡ 16) × (message_size Four ≡ 7) × (check_size Four ≡ 8)
 sizes_four = (refl, refl, refl)
 

@@ -1,5 +1,5 @@
--- The distance of the code, and bounded-distance decoding. Two codewords differ in 0 or in at least 6 cells.
--- It finds the one codeword within 2 of a full word, and it fails exactly if no codeword lies within 2.
+-- The distance of the code, and bounded-distance decoding. Document 01, "The code": two codewords differ in 0 or in at least
+-- 6 cells; "One line": the one codeword within 2 of a full word, and it fails exactly if no codeword lies within 2.
 -- Assumes nothing.
 use mathlib.Core.Path.{◌≡◌, refl, sym, ap, ◌∙◌}
 use mathlib.Core.Bool.{Bool, true, false, cond, ◌&&◌}

@@ -1,4 +1,4 @@
--- The small lines of degree 4, as one table: P1 to P9 are decoded, P10 to P14 give messages and counts.
+-- The small lines of document 01, degree 4, as one table: P1 to P9 are decoded, P10 to P14 give messages and counts.
 -- Assumes nothing.
 use mathlib.Core.Path.{◌≡◌, refl, sym, ap, ◌∙◌}
 use mathlib.Core.Bool.{Bool, true, false, cond}

@@ -1,4 +1,5 @@
--- The two numbers of a filling word: the low one comes first, bit i serves cell i, and bits from n up are not read.
+-- The two numbers of a filling word: document 02, W-212, "low word first"; document 01, "One line": "bit i serves cell i", and "bits from n
+-- up are not read".
 -- Assumes nothing.
 use mathlib.Core.Path.{◌≡◌, refl, sym, ap, ap₂, ◌∙◌}
 use mathlib.Core.Bool.{cond}

@@ -1,4 +1,4 @@
--- The line law: if twice the wrong known cells plus the unsure ones is below 6, the sent codeword comes
+-- The line law. Document 01, "One line": if twice the wrong known cells plus the unsure ones is below 6, the sent codeword comes
 -- out under every filling. From it, the messages of a codeword, and of a received line with so few wrong and erased cells.
 -- Assumes nothing.
 use mathlib.Core.Path.{◌≡◌, refl, sym, ap, ap₂, ◌∙◌}

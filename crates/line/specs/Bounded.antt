@@ -1,4 +1,4 @@
--- Bounded-distance decoding. It finds the one codeword within 2 of a full word. It fails exactly if no
+-- Bounded-distance decoding. Document 01, "One line": the one codeword within 2 of a full word. It fails exactly if no
 -- codeword lies within 2. Here it is a search: the word itself, else the word with one cell flipped, else with two.
 use Rattle.std.specs.Prelude.{Bool, cond, List, ℕ, length}
 use Rattle.laws.specs.Searches.{first_of}
@@ -36,7 +36,7 @@ module _ (passes : List ℕ → Bool) where
 unfoldable pub bounded : Degree → List ℕ → Answer
 bounded d w = within2 (is_codeword d) w
 
--- how many cells it changed: 0, 1 or 2, and 0 where it fails
+-- Document 02, W-202: "how many cells it changed: 0, 1 or 2, and 0 where it fails"
 abbrev pub changed : List ℕ → Answer → ℕ
 changed w (Found c) = distance w c
 changed w Failed = 0

@@ -1,4 +1,4 @@
--- Cells, lines and words. A cell is 0, 1 or 2; 2 means unsure, here an erasure.
+-- Cells, lines and words. Document 01, "One line": a cell is 0, 1 or 2; 2 means unsure, here an erasure.
 use Rattle.std.specs.Prelude.{◌≡◌, Bool, cond, List, [], ◌∷◌, ℕ, ◌+◌, ◌-◌, ◌*◌, ◌/◌, ◌%◌, ◌^◌, ◌<◌, eqb, ltb, length, get_or, set}
 pub use Rattle.laws.specs.Bits.{bit}
 use Rattle.line.specs.declared.side.Side.{Side}
@@ -45,7 +45,7 @@ distance [] ws = 0
 distance (c ∷ cs) [] = 0
 distance (c ∷ cs) (w ∷ ws) = cond (is_erased c) 0 (cond (eqb c w) 0 1) + distance cs ws
 
--- a filling word as it is lent, in two numbers, the low one first
+-- a filling word as it is lent, in two numbers: document 02, W-212, "low word first"
 abbrev pub filling_word : (low high : ℕ) → ℕ
 filling_word low high = high * 2 ^ 64 + low
 

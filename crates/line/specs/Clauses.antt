@@ -1,4 +1,5 @@
--- The short clauses that settle a message, and the count of a line. The messages themselves are defined without them (`Decoding`); that each clause gives the message is a law, and only the count names them.
+-- The short clauses that settle a message, and the count of a line. Document 01, "Outgoing messages". The messages
+-- themselves are defined without them (`Decoding`); that each clause gives the message is a law, and only the count names them.
 use Rattle.std.specs.Prelude.{Bool, false, cond, not, ◌&&◌, ◌||◌, List, ℕ, ◌+◌, eqb, leb, length}
 use Rattle.laws.specs.Sums.{sum_to}
 use Rattle.line.specs.declared.side.Side.{Side}

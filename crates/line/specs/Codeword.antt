@@ -1,4 +1,4 @@
--- Codewords. A word is a codeword when its check sums s1 and s3 are 0 and its ones are even in number.
+-- Codewords. Document 01, "The code": a word is a codeword when its check sums s1 and s3 are 0 and its ones are even in number.
 use Rattle.std.specs.Prelude.{◌≡◌, Bool, ◌&&◌, List, ℕ, eqb}
 use Rattle.degree.specs.declared.Degree.{Degree}
 use Rattle.degree.specs.Degree.{size}

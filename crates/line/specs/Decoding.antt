@@ -1,5 +1,5 @@
--- Line decoding: with fewer than 6 unsure cells both fillings are decoded, and one of what they give is chosen. And outgoing messages, here
--- called extrinsic messages. Both go over a decoder of full words, `dec`, which is `bounded d` in every contract.
+-- Line decoding (Algorithm 1 of source document 000, with 6 for its designed distance), and outgoing messages, here called
+-- extrinsic messages. Both go over a decoder of full words, `dec`, which is `bounded d` in every contract.
 use Rattle.std.specs.Prelude.{cond, List, [], ◌∷◌, ℕ, zero, suc, ltb, length, set}
 use Rattle.line.specs.declared.side.Side.TheVariants.{One, Two}
 use Rattle.line.specs.Cells.{cell, few, distance, filled}

@@ -1,4 +1,4 @@
--- Encoding a line. The message cells of a line are 2v to n - 2; all else is check.
+-- Encoding a line. Document 01, "The code": message cells of a line are 2v to n - 2; all else is check.
 use Rattle.std.specs.Prelude.{List, [], ◌∷◌, ◌++◌, ℕ, ◌+◌, ◌-◌, ◌*◌, ◌%◌, get_or}
 use Rattle.laws.specs.Digits.{sum_over, ones_in, digits}
 use Rattle.degree.specs.declared.Degree.{Degree}

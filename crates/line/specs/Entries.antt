@@ -1,4 +1,4 @@
--- What the entries of this crate promise: the answer in numbers, and every lent cell at exit, for taken and
+-- What the entries of this crate promise: the answer in document 01's numbers, and every lent cell at exit, for taken and
 -- refused calls alike.
 use Rattle.std.specs.Prelude.{◌≡◌, Bool, true, false, List, ℕ, ◌+◌, ◌^◌, ◌≤◌, Option, None, Some, Result, Ok, Err}
 use Rattle.line.specs.declared.refusals.Refusal.{Refusal}
@@ -7,7 +7,7 @@ use Rattle.line.specs.Decoding.{decode, messages}
 use Rattle.line.specs.Clauses.{count as count_by}
 use Rattle.line.specs.Refusals.{number, refusal, given, line_tests, messages_tests}
 
--- ---- the answers in numbers
+-- ---- the answers in document 01's numbers
 
 -- the refusal, 0 for none; found; the cells changed
 abbrev pub word_numbers : Result (Option ℕ) Refusal → ℕ × Bool × ℕ
@@ -31,8 +31,8 @@ messages_numbers (Ok n) = (0, n)
 
 -- ---- the promises. `more` says of further lent slices whether their length is wrong; the entries here have none.
 
--- an answer to a line or word, by its refusal and whether it is found, and the cells: a failed word is given back as it came, and so is a
--- refused one
+-- an answer to a line or word, by its refusal and whether it is found, and the cells: "a failed word is given back as it came", and so
+-- is a refused one
 pub record Answered (no : ℕ) (a : Answer) (before after : List ℕ) (told : ℕ × Bool) : Type 0 where
   pub refusal : told.0 ≡ no
   pub found : told.1 ≡ is_found a
@@ -43,14 +43,14 @@ pub record WordAnswered (no : ℕ) (a : Answer) (before after : List ℕ) (r : R
   pub answer : Answered no a before after ((word_numbers r).0, (word_numbers r).1)
   pub changed : (word_numbers r).2 ≡ changed before a
 
--- bounded-distance decoding of a word, whose cells are 0 or 1: the one codeword within 2 of a full word. It fails exactly if
--- no codeword lies within 2. A refused call finds nothing and changes nothing.
+-- bounded-distance decoding of a word, whose cells are 0 or 1: "the one codeword within 2 of a full word. It fails exactly if
+-- no codeword lies within 2." A refused call finds nothing and changes nothing.
 abbrev pub BoundedDone : (degree : ℕ) (before : List ℕ) (more : List Bool) (after : List ℕ) → Result (Option ℕ) Refusal → Type 0
 BoundedDone degree before more after =
     let tests = line_tests 1 degree before more in
     WordAnswered (refusal tests) (given degree tests (λ d. bounded d before) Failed) before after
 
--- decoding of a line, whose cells are 0, 1 or 2: with 6 or more unsure cells it fails, otherwise both words are decoded
+-- decoding of a line, whose cells are 0, 1 or 2: "with 6 or more unsure cells it fails. Otherwise both words are decoded."
 abbrev pub DecodeLineDone : (degree filling : ℕ) (before : List ℕ) (more : List Bool) (after : List ℕ) → Result Bool Refusal → Type 0
 DecodeLineDone degree filling before more after r =
     let tests = line_tests 2 degree before more in
@@ -60,6 +60,6 @@ DecodeLineDone degree filling before more after r =
 pub record MessagesDone (degree : ℕ) (incoming channel : List ℕ) (filling : ℕ) (before : List ℕ) (more : List Bool) (after : List ℕ) (r : Result ℕ Refusal) : Type 0 where
   pub refusal : (messages_numbers r).0 ≡ refusal (messages_tests degree incoming channel before more)
   pub count : (messages_numbers r).1 ≡ given degree (messages_tests degree incoming channel before more) (λ d. count_by (bounded d) incoming channel filling) 0
-  -- at most n + 2 a line
+  -- "at most n + 2 a line"
   pub most : (messages_numbers r).1 ≤ 2 ^ degree + 2
   pub cells : after ≡ given degree (messages_tests degree incoming channel before more) (λ d. messages (bounded d) incoming channel filling) before

@@ -1,4 +1,4 @@
--- When a call is turned down. The tests run in number order; the first that applies is returned with count 0, and
+-- When a call is turned down. Document 01: tests run in number order; the first that applies is returned with count 0, and
 -- every lent cell keeps its value. An entry omits a test for something it isn't given.
 use Rattle.std.specs.Prelude.{Bool, true, false, cond, not, ◌&&◌, ◌||◌, List, [], ◌∷◌, ℕ, ◌^◌, eqb, leb, length, Option, None, Some, Result, Ok, Err}
 use Rattle.degree.specs.declared.Degree.{Degree}
@@ -6,7 +6,7 @@ use Rattle.degree.specs.Degree.{named}
 use Rattle.line.specs.declared.refusals.Refusal.{Refusal}
 use Rattle.line.specs.declared.refusals.Refusal.TheVariants.{BadDegree, BadIterations, BadLength, BadCell, BadFile, BadSum, BadContent, BadSeed, TooMany}
 
--- the numbers of the refusals: 1 to 4 are those of a call that lends cells, 5 to 7 of a file, 8 and 9 of a load
+-- the numbers of document 01's table, 1 to 4, and those that document 02 adds to it: 5 to 7, of a file, W-201, 8 and 9, of a load, W-204
 abbrev pub number : Refusal → ℕ
 number BadDegree = 1
 number BadIterations = 2
@@ -72,8 +72,8 @@ line_tests bound degree cells more =
     ∷ (3, some (misfit (length cells) (2 ^ degree) ∷ more))
     ∷ (4, not (at_most bound cells)) ∷ []
 
--- a call that lends an incoming and a channel line, and n cells for the messages: old cells of a slice that is only written are
--- not tested
+-- a call that lends an incoming and a channel line, and n cells for the messages: "old cells of a slice that is only written
+-- are not tested"
 unfoldable pub messages_tests : (degree : ℕ) (incoming channel messages : List ℕ) (more : List Bool) → List (ℕ × Bool)
 messages_tests degree incoming channel messages more =
     (1, unnamed degree)

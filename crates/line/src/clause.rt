@@ -1,4 +1,4 @@
-// What is known of a line before its cells are settled, and the clause that settles the message at a cell.
+// What is known of a line before its cells are settled, and the clause of document 01 that settles the message at a cell.
 ghost use Rattle.std.specs.Prelude.{◌≡◌, ◌&&◌, ◌||◌, not, List, ℕ, ◌<◌, eqb, ltb};
 ghost use Rattle.degree.specs.declared.Degree.{Degree};
 ghost use Rattle.degree.specs.Degree.{size};
@@ -16,8 +16,8 @@ use crate::side::Side;
 use crate::tables::LineTables;
 use words::word::Word;
 
-// What settles the message at a cell: the clauses in their order. A side says which filling's codeword is in reach or, of an open
-// cell, which filling is decoded once more.
+// What settles the message at a cell: document 01's clauses in their order. A side says which filling's codeword is in reach
+// or, of an open cell, which filling is decoded once more.
 #[derive(Clone, Copy, Debug, PartialEq, Eq)]
 pub enum Clause {
     Equal, // equal cells at k
@@ -106,7 +106,7 @@ impl Trial {
     }
 }
 
-// The clauses in their order, from what both fillings say at a cell where the channel has c.
+// The clauses in document 01's order, from what both fillings say at a cell where the channel has c.
 fn by_reach(one: Seen, two: Seen, c: u64) -> Clause
     ensures { result ≡ first_fit one.reach two.reach (eqb c 2) (eqb one.value two.bit) (eqb two.value one.bit) one.same two.same }
 {

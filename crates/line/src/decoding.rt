@@ -1,4 +1,4 @@
-// Line decoding: fill, decode both words, measure and choose.
+// Line decoding in the order of Algorithm 1 of source document 000: fill, decode both words, measure and choose.
 ghost use Rattle.std.specs.Prelude.{◌≡◌, List, ℕ, ◌+◌, ◌*◌, ◌<◌, ◌≤◌};
 ghost use Rattle.degree.specs.Degree.{size};
 ghost use Rattle.line.specs.Cells.{few, bit};
@@ -14,8 +14,8 @@ use crate::tables::LineTables;
 use crate::tally::Tally;
 use words::word::Word;
 
-// A word that failed is out; of two codewords the one with fewer differences at the line's known cells, at a tie the first. One
-// codeword needs no measuring.
+// Lines 8 to 14 of Algorithm 1: a word that failed is out; of two codewords the one with fewer differences at the line's
+// known cells, at a tie the first. One codeword needs no measuring.
 pub fn choose(y: Line, one: Option<Correction>, two: Option<Correction>) -> Option<Correction>
     ensures { (n : ℕ) (ys : List ℕ) (p q : Answer) → Packs n ys y → Answers n p one → Answers n q two → Answers n (choice ys p q) result }
 {
@@ -44,7 +44,7 @@ pub fn or_back(y: Line, tried: Option<Correction>) -> Line
     }
 }
 
-// Count the unsure cells, and with fewer than 6 fill, decode both words, measure and choose.
+// Algorithm 1: count the unsure cells, and with fewer than 6 fill, decode both words, measure and choose.
 pub fn try_packed(
     y: Line,
     filling: Word,
@@ -67,7 +67,7 @@ pub fn try_packed(
     }
 }
 
-// Line decoding: what was found, or the line as it came.
+// Line decoding: what Algorithm 1 found, or the line as it came.
 pub fn decode_packed(y: Line, filling: Word, count: u64, tables: &LineTables) -> Tally<Line>
     requires { count < 900 }
     ensures { (result.count ≤ count + 2) × ((ys : List ℕ) → Packs (size tables.now.degree) ys y → Packs (size tables.now.degree) (decoded (bounded tables.now.degree) ys (value filling)) result.value × (result.count ≡ count + 2 * bit (few ys))) }

@@ -12,12 +12,13 @@ use degree::{Degree, order_of};
 use words::word::grid::Grid;
 use words::word::{Word, single, xor_where, xor_words, zero_word};
 
-// The encoded lines of the messages with one 1: word a, below k, is that of cell a.
+// The encoded lines of the messages with one 1: word a, below k, is that of cell a. The words stay where room for them is made, and the
+// table refers to them: handed back by value they would be copied.
 #[derive(Clone, Copy)]
-pub struct UnitTable {
+pub struct UnitTable<'a> {
     pub degree: Degree,
-    pub words: Grid,
-    pub ghost made: { Units degree words },
+    pub words: &'a Grid,
+    pub ghost made: { Units degree words.now },
 }
 
 // Entry a: the check cells of the line of unit a, bit i being cell i, and in bit 14 its parity cell.
@@ -67,26 +68,22 @@ fn unit_word(d: Degree, a: usize, checks: u16) -> Word
 }
 
 // The words of the units, from their check cells.
-fn unit_words(d: Degree) -> Grid
-    ensures { Units d result }
+fn put_units(d: Degree, words: &mut Grid)
+    ensures { Units d words.new }
 {
     let checks = checks_of(d);
-    let mut words = Grid::zero();
     for (a, entry) in checks.iter().enumerate() {
         words.put(a, unit_word(d, a, *entry));
     }
-    words
 }
 
-impl UnitTable {
-    // The table of a degree.
-    pub fn new(degree: Degree) -> UnitTable
+impl<'a> UnitTable<'a> {
+    // The table of a degree, made in place in room that is lent.
+    pub fn new(degree: Degree, words: &'a mut Grid) -> UnitTable<'a>
         ensures { result.degree ≡ degree }
     {
-        UnitTable {
-            degree,
-            words: unit_words(degree),
-        }
+        put_units(degree, words);
+        UnitTable { degree, words }
     }
 
     // A message, encoded: the sum of the units at its ones.

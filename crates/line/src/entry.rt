@@ -1,5 +1,5 @@
 // The entries: what a caller outside may use. Each takes plain numbers and lent slices, asks nothing of them, and tests them
-// in the order of the refusals' numbers.
+// in document 01's order.
 ghost use Rattle.std.specs.Prelude.{◌≡◌, [], ℕ, ◌%◌, length};
 ghost use Rattle.degree.specs.Degree.{size};
 ghost use Rattle.line.specs.Working.Packed.{IsLine, Packs};

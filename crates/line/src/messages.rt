@@ -1,5 +1,5 @@
 // The extrinsic messages of a line, and its count.
-ghost use Rattle.std.specs.Prelude.{◌≡◌, true, false, ◌&&◌, List, ℕ, ◌+◌, ◌*◌, ◌<◌, ◌≤◌, eqb, IfSome};
+ghost use Rattle.std.specs.Prelude.{◌≡◌, true, false, ◌&&◌, List, ℕ, ◌+◌, ◌*◌, ◌<◌, ◌≤◌, eqb, MatchOption};
 ghost use Rattle.laws.specs.Working.Bits.{bit_at};
 ghost use Rattle.degree.specs.declared.Degree.{Degree};
 ghost use Rattle.degree.specs.Degree.{size};
@@ -11,7 +11,7 @@ ghost use Rattle.line.specs.Working.Settled.{if_near, instead, settled};
 ghost use Rattle.line.specs.Clauses.{answer_cell, cost, clause, count};
 ghost use Rattle.words.specs.Working.Word.{value, width};
 ghost use Rattle.line.specs.Working.Tries.{Answers};
-ghost use Rattle.line.specs.Working.Fillings.{TrialOf, BothOf, Based, Masks, start, stays, Quiet, tried_of};
+ghost use Rattle.line.specs.Working.Fillings.{TrialOf, BothOf, Based, Masks, start, stays, quiet, Quiet, tried_of};
 
 use crate::bounded::{Correction, counted};
 use crate::clause::{Base, Both, Clause, Trial};
@@ -122,7 +122,7 @@ impl Base<'_> {
         }
     }
 
-    // The message at cell k as its clause gives it.
+    // The clauses of document 01, in its order: the message at cell k as its clause gives it.
     fn settle(&self, v: Clause, k: CellNumber, count: u64) -> Tally<u64>
         requires { count < 800 }
         ensures { (result.count ≤ count + 2) × ((d : Degree) (ys rs : List ℕ) (f : ℕ) → k.number < size d → Based d ys rs f self.now → v ≡ clause (bounded d) ys rs f k.number → (result.value ≡ settled (bounded d) ys rs f k.number v) × (result.count ≡ count + cost v)) }
@@ -315,15 +315,22 @@ impl Base<'_> {
     }
 }
 
+// `==` says of two words that their parts are the same; this says it of what they stand for.
+fn same_words(one: Word, two: Word) -> bool
+    ensures { result ≡ eqb (value one) (value two) }
+{
+    one == two
+}
+
 // The codeword that both fillings decoded to, where no change of one cell takes it out of reach and no cell is crowded. It is then the
 // message of every cell; in a decode most lines are so, and nothing else is looked at.
 fn quiet_word(erased: u32, t: Both) -> Option<Word>
-    ensures { IfSome result (Quiet erased t) }
+    ensures { MatchOption result (quiet erased t ≡ false) (Quiet erased t) }
 {
     match (t.one, t.two) {
         (Some(one), Some(two)) => {
             let near = (one.changed < Line::RADIUS) & (two.changed < Line::RADIUS);
-            if ((erased < Line::DISTANCE - 1) & near) & (one.word == two.word) {
+            if ((erased < Line::DISTANCE - 1) & near) & same_words(one.word, two.word) {
                 Some(one.word)
             } else {
                 None

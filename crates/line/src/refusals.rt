@@ -1,5 +1,5 @@
-// When a call is turned down: the refusals and their numbers, and the tests of a call that lends lines. They run in number
-// order, and no cell is read before the lengths are known to be right.
+// When a call is turned down: the refusals, the numbers of document 01's table, and the tests of a call that lends lines. They run in
+// number order, and no cell is read before the lengths are known to be right.
 ghost use Rattle.std.specs.Prelude.{◌≡◌, not, [], ◌∷◌};
 ghost use Rattle.degree.specs.Degree.{bits};
 ghost use Rattle.line.specs.declared.refusals.Refusal.TheVariants.{BadDegree};
@@ -11,7 +11,7 @@ use degree::{Degree, UnknownDegree};
 use std::error::Error;
 use std::fmt;
 
-// Why a call is turned down, in the order of the numbers.
+// Why a call is turned down, in the order of the numbers: document 01's numbers 1 to 4, and those that document 02 adds.
 #[derive(Clone, Copy, Debug, PartialEq, Eq)]
 pub enum Refusal {
     BadDegree,
@@ -33,7 +33,7 @@ impl From<UnknownDegree> for Refusal {
     }
 }
 
-// The number of a refusal, as a caller outside sees it.
+// The number of a refusal in the table, as a caller outside sees it.
 impl From<Refusal> for u64 {
     ghost from_gives = { λ why result. result ≡ number why };
 

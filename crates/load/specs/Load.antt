@@ -1,4 +1,4 @@
--- A repeatable load: for acceptance runs, sheets are made from a seed.
+-- A repeatable load. Document 02, W-204: "For acceptance runs we want sheets from a seed."
 use Rattle.std.specs.Prelude.{ℕ, zero, suc, ◌+◌, ◌-◌, ◌*◌, ◌/◌, ◌%◌, ◌^◌, List, [], ◌∷◌, take, drop, bit_xor, slice_set}
 use Rattle.degree.specs.declared.Degree.{Degree}
 use Rattle.degree.specs.Degree.{size}

@@ -139,7 +139,7 @@ words after = (
 -- ---- one line: found
 
 pub lines : (after : List ℕ)
-    -- three ones, which fail; five unsure cells, which are found; a cell 3
+    -- P3 of document 01: three ones, which fail; P4: five unsure cells, which are found; a cell 3
     → Tells (DecodeLineTold 4 0 (line (0 ∷ 4 ∷ 6 ∷ []) []) after (nines 1)) 0 (0 ∷ [])
     × Tells (DecodeLineTold 4 0 (line [] (0 ∷ 4 ∷ 6 ∷ 7 ∷ 8 ∷ [])) after (nines 1)) 0 (1 ∷ [])
     × Tells (DecodeLineTold 4 0 (set zeros 9 3) after (nines 1)) 4 (0 ∷ [])

@@ -12,7 +12,7 @@ use array::report::Report;
 use array::rows::look_up;
 use line::refusals::{Refusal, refusal_of};
 
-// A report in numbers; a refused call reports zeros.
+// An answer in document 01's numbers: the report; a refused call reports zeros.
 fn report_numbers(answer: &Result<Report, Refusal>) -> [u64; 3]
     ensures { result ≡ report_numbers answer.now }
 {

@@ -8,7 +8,7 @@ use crate::reports::{lent, tell};
 use line::entry::{bounded_distance, decode_line, line_messages};
 use line::refusals::{Refusal, refusal_of};
 
-// Found, and the number of cells changed.
+// An answer in document 01's numbers: found, and the number of cells changed.
 fn found_numbers(answer: &Result<Option<u64>, Refusal>) -> [u64; 2]
     ensures { result ≡ found_numbers answer.now }
 {

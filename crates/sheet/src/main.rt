@@ -17,7 +17,21 @@ struct Reading {
     end: io::Result<()>,
 }
 
-// A read gives as many bytes as it likes, so those that came are counted here.
+// One read, to the start of a buffer. A read gives as many bytes as it likes.
+fn read_once<R: Read>(input: &mut R, buffer: &mut [u8]) -> Reading
+    ensures within { (result.got ≤ length buffer.new) × (length buffer.new ≡ length buffer.old) }
+    ensures bytes { Consumes (R.remaining input.old) (R.remaining input.new) (take result.got buffer.new) }
+    ensures end { OnOk result.end (result.got ≡ 0 → 0 < length buffer.new → IsAtEnd (R.remaining input.new)) }
+{
+    match input.read(buffer) {
+        Ok(got) => Reading { got, end: Ok(()) },
+        Err(error) => Reading {
+            got: 0,
+            end: Err(error),
+        },
+    }
+}
+
 // Reads until the buffer is full, the input ends or a read fails.
 fn read_input<R: Read>(input: &mut R, buffer: &mut [u8]) -> Reading
     ensures within { (result.got ≤ length buffer.new) × (length buffer.new ≡ length buffer.old) }
@@ -25,19 +39,15 @@ fn read_input<R: Read>(input: &mut R, buffer: &mut [u8]) -> Reading
     ensures whole { OnOk result.end (result.got < length buffer.new → IsAtEnd (R.remaining input.new)) }
 {
     let mut got = 0;
-    while got < buffer.len() {
-        match input.read(&mut buffer[got..]) {
-            Ok(0) => return Reading { got, end: Ok(()) },
-            Ok(more) => got += more,
-            Err(error) => {
-                return Reading {
-                    got,
-                    end: Err(error),
-                };
-            }
-        }
+    let mut more = true;
+    let mut end = Ok(());
+    while more & (got < buffer.len()) {
+        let last = read_once(input, &mut buffer[got..]);
+        got += last.got;
+        more = last.got > 0;
+        end = last.end;
     }
-    Reading { got, end: Ok(()) }
+    Reading { got, end }
 }
 
 // Says on standard error that something went wrong, where it did. Where that cannot be written either, nothing can be said.

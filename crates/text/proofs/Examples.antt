@@ -52,7 +52,7 @@ eight : printed (56 ∷ 10 ∷ []) ≡ refused 49
 unfolding printed given sheet_tests refusal_text numbers_text number_text decimal_digits decimal
 eight = refl
 
--- no lines after 4, and none after 7, which is a degree
+-- no lines after 4, and none after 7, which is a degree (document 02, W-212)
 no_lines : printed (52 ∷ 10 ∷ []) ≡ refused 51
 unfolding printed given sheet_tests shaped refusal_text numbers_text number_text decimal_digits decimal
 no_lines = refl

@@ -1,4 +1,3 @@
-mod Passed
 mod WritingLaws
 mod Decimals
 mod SheetLaws

@@ -1,5 +1,5 @@
--- Examples of what is printed: the four numbers in their order and the lines after them, which the checker computes, a whole
--- sheet that decodes, by the array theorem and the laws of the text, and a whole sheet that zero filling decides.
+-- Examples of what is printed: the four numbers in their order and the lines after them, which the checker computes, the whole example of
+-- document 01, by the array theorem and the laws of the text, and a whole sheet that zero filling decides.
 -- Assumes nothing.
 use mathlib.Core.Path.{◌≡◌, refl, sym, ap, ◌∙◌}
 use mathlib.Core.Bool.{true}
@@ -60,7 +60,7 @@ printed_zeros input r taken array lines_read left counted =
     sym (printed_taken input Four taken) ∙ ap (decoded_text Four) (ap (cells_of 16) lines_read ∙ read_back 16 array)
     ∙ rw (left, counted, sent_known Four zero_sheet zero_sent, sent_closed Four zero_sheet zero_sent) refl
 
--- ---- "Input 4, then 1000100000000000, then fifteen lines 0000000000000000: it prints 0 64 0 1, then sixteen lines
+-- ---- document 01: "Input 4, then 1000100000000000, then fifteen lines 0000000000000000: it prints 0 64 0 1, then sixteen lines
 -- 0000000000000000."
 
 abbrev pub input : List ℕ
@@ -109,7 +109,7 @@ taken = (refl, refl)
 pub whole_example : printed input ≡ output
 whole_example = printed_zeros input received taken received_array lines_read decoded all_counted
 
--- ---- "with zero filling": sixteen lines 100010??00000000, a tie, which filling bits of 0 lead to zeros and those of 1 to word_g
+-- ---- "with zero filling": sixteen lines 100010??00000000, document 01's P7, which filling bits of 0 lead to zeros and those of 1 to word_g
 
 abbrev pub tied_input : List ℕ
 tied_input = 52 ∷ 10 ∷ lines (λ i. 49 ∷ 48 ∷ 48 ∷ 48 ∷ 49 ∷ 48 ∷ 63 ∷ 63 ∷ (replicate 8 48 ++ (10 ∷ []))) 16

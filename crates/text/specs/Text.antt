@@ -1,5 +1,5 @@
--- The text of a sheet: what the program `sheet` reads, and what it prints. docs/DECISIONS.md says how open points were settled. A text
--- is a list of bytes.
+-- The text of a sheet: what the program `sheet` reads, and what it prints. Document 01, "Small lines, degree 4", the paragraph
+-- on `sheet`; open points are settled by docs/DECISIONS.md. A text is a list of bytes.
 use Rattle.std.specs.Prelude.{Bool, cond, not, ◌&&◌, ◌||◌, List, [], ◌∷◌, ◌++◌, map, ℕ, zero, suc, ◌+◌, ◌-◌, ◌*◌, ◌/◌, ◌%◌, ◌^◌, eqb, ltb, length, take, drop, get_or, replicate}
 use Rattle.laws.specs.Bits.{bit}
 use Rattle.laws.specs.Tests.{every}
@@ -29,8 +29,8 @@ shaped n t = eqb (length t) (n * (n + 1)) && every (λ p. cond (eqb (p % (n + 1)
 unfoldable pub known : List ℕ → Bool
 known t = every (λ p. eqb (byte t p) 10 || (eqb (byte t p) 48 || (eqb (byte t p) 49 || eqb (byte t p) 63))) (length t)
 
--- the tests of what is read, the lines being what follows the first 2 bytes: a first line other than just 4, 6 or 7 and a newline is
--- 1, "wrong byte totals or newline places are 3; another character is 4."
+-- the tests of what is read, the lines being what follows the first 2 bytes: "A first line other than just 4 or 6 and a newline is 1",
+-- but document 02, W-212: "takes a first line 7 as well". "Wrong byte totals or newline places are 3; another character is 4."
 unfoldable pub sheet_tests : (input : List ℕ) → List (ℕ × Bool)
 sheet_tests input =
     (1, unnamed (first_line input))

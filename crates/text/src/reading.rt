@@ -4,7 +4,7 @@ ghost use Rattle.laws.specs.Tests.{every};
 ghost use Rattle.text.specs.Text.{byte, first_line, shaped, known, cell_of, cells_of};
 ghost use Rattle.text.specs.Working.Characters.{placed, is_known};
 
-use crate::turning::cell_of;
+use crate::turning::{cell_of, turn_line};
 
 // The degree that the first line says, if that is just a character and a newline.
 pub fn first_line(text: &[u8]) -> Option<u64>
@@ -32,9 +32,11 @@ fn all_placed(n: usize, text: &[u8]) -> bool
     requires { n ≤ 128 }
     ensures { result ≡ every (λ p. placed n p (byte text.now p)) (length text.now) }
 {
-    text.iter()
-        .enumerate()
-        .all(|(p, byte)| is_placed(n, p, *byte))
+    let mut all = true;
+    for (p, byte) in text.iter().enumerate() {
+        all &= is_placed(n, p, *byte);
+    }
+    all
 }
 
 // Test 3: n lines of n cells and a newline. No byte is read where their total is wrong.
@@ -53,24 +55,18 @@ pub fn is_shaped(n: usize, text: &[u8]) -> bool
 fn is_known_byte(byte: u8) -> bool
     ensures { result ≡ is_known byte }
 {
-    matches!(byte, b'\n' | b'0' | b'1' | b'?')
+    (byte == b'\n') | (byte == b'0') | (byte == b'1') | (byte == b'?')
 }
 
-// Test 4: no character but a newline, 0, 1 and ?.
+// Test 4: no character but a newline, 0, 1 and ?. All are looked at, for then the machine takes many at a time.
 pub fn is_known(text: &[u8]) -> bool
     ensures { result ≡ known text.now }
 {
-    text.iter().all(|byte| is_known_byte(*byte))
-}
-
-// The cells of a line.
-fn read_line(line: &[u8], cells: &mut [u8])
-    requires { length cells.old ≡ length line.now }
-    ensures { cells.new ≡ map cell_of line.now }
-{
-    for (i, character) in line.iter().enumerate() {
-        cells[i] = cell_of(*character);
+    let mut all = true;
+    for byte in text {
+        all &= is_known_byte(*byte);
     }
+    all
 }
 
 // The cells of n lines, each without its newline.
@@ -81,6 +77,10 @@ pub fn read_cells(n: usize, text: &[u8], cells: &mut [u8])
     for i in 0..n {
         let from = i * (n + 1);
         let to = i * n;
-        read_line(&text[from..from + n], &mut cells[to..to + n]);
+        turn_line(
+            |character| cell_of(character),
+            &text[from..from + n],
+            &mut cells[to..to + n],
+        );
     }
 }

@@ -1,9 +1,9 @@
 // What is printed: a text that grows byte by byte, in room for the longest.
-ghost use Rattle.std.specs.Prelude.{◌≡◌, ℕ, List, [], ◌∷◌, ◌++◌, ◌+◌, ◌*◌, ◌<◌, ◌≤◌, length, take};
-ghost use Rattle.text.specs.Text.{decimal, number_text, numbers_text, line_text, array_text, report_text, refusal_text};
+ghost use Rattle.std.specs.Prelude.{◌≡◌, ℕ, List, [], ◌∷◌, ◌++◌, map, ◌+◌, ◌*◌, ◌<◌, ◌≤◌, length, take};
+ghost use Rattle.text.specs.Text.{char_of, decimal, number_text, numbers_text, line_text, array_text, report_text, refusal_text};
 ghost use Rattle.text.specs.Writing.{Wrote};
 
-use crate::turning::char_of;
+use crate::turning::{char_of, turn_line};
 use array::report::Report;
 use std::marker::Model;
 
@@ -35,7 +35,7 @@ impl Output {
         }
     }
 
-    // Every byte that is printed goes through here.
+    // One byte more.
     fn put(&mut self, byte: u8)
         requires { length self.old < 16596 }
         ensures { self.new ≡ self.old ++ byte ∷ [] }
@@ -79,14 +79,23 @@ impl Output {
         self.put_number(e, b'\n');
     }
 
-    // A line of cells.
+    // The cells of a line. They are written at once: put one by one, the length so far would be stored and read for each.
+    fn put_cells(&mut self, cells: &[u8])
+        requires { length self.old + length cells.now ≤ 16596 }
+        ensures { self.new ≡ self.old ++ map char_of cells.now }
+    {
+        let at = self.long;
+        let end = at + cells.len();
+        turn_line(|cell| char_of(cell), cells, &mut self.bytes[at..end]);
+        self.long = end;
+    }
+
+    // A line of cells, and a newline.
     fn put_line(&mut self, cells: &[u8])
         requires { length self.old + length cells.now + 1 ≤ 16596 }
         ensures { self.new ≡ self.old ++ line_text cells.now }
     {
-        for cell in cells {
-            self.put(char_of(*cell));
-        }
+        self.put_cells(cells);
         self.put(b'\n');
     }
 

@@ -1,6 +1,6 @@
 -- What the parts of a line's work stand for: fillings, and what they say at a cell. The contracts between the functions of this
 -- crate are put in these words; nothing here has to be believed to read a contract of an entry.
-use Rattle.std.specs.Prelude.{◌≡◌, Bool, true, cond, not, ◌||◌, List, ℕ, ◌-◌, ◌^◌, ◌<◌, eqb, ltb, Option, Some}
+use Rattle.std.specs.Prelude.{◌≡◌, Bool, true, false, cond, not, ◌&&◌, ◌||◌, List, ℕ, ◌-◌, ◌^◌, ◌<◌, eqb, ltb, Option, Some, None}
 use Rattle.laws.specs.Working.Bits.{bit_at}
 use Rattle.degree.specs.declared.Degree.{Degree}
 use Rattle.degree.specs.Degree.{size}
@@ -69,7 +69,18 @@ pub record BothOf (d : Degree) (ys : List ℕ) (f : ℕ) (t : Both) : Type 0 whe
   pub two : few ys ≡ true → Decodes d (filled side.Two ys f) t.two
   pub count : t.count ≡ cond (few ys) 2 0
 
--- both fillings decoded to one codeword, which lies nearer than the radius to both, and one erasure more is not too many
+-- both fillings decoded to one codeword nearer than the radius, and one erasure more is not too many
+abbrev pub are_quiet : (erased : ℕ) (one two : Option Correction) → Bool
+are_quiet erased (Some one) (Some two) =
+    (ltb erased (designed_distance - 1) && (ltb one.changed radius && ltb two.changed radius)) && eqb (value one.word) (value two.word)
+are_quiet erased (Some one) None = false
+are_quiet erased None two = false
+
+-- of both fillings of a line
+abbrev pub quiet : (erased : ℕ) → Both → Bool
+quiet erased t = are_quiet erased t.one t.two
+
+-- the same, with the codeword
 pub record Quiet (erased : ℕ) (t : Both) (w : Word) : Type 0 where
   pub one : Correction
   pub two : Correction

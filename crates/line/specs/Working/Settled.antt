@@ -1,4 +1,4 @@
--- What each clause gives. The messages are defined without the clauses; that each gives the message is a law.
+-- What each of document 01's clauses gives. The messages are defined without the clauses; that each gives the message is a law.
 use Rattle.std.specs.Prelude.{cond, List, ℕ}
 use Rattle.line.specs.declared.side.Side.{Side}
 use Rattle.line.specs.declared.side.Side.TheVariants.{One, Two}

@@ -1,19 +1,20 @@
 -- `read_input` meets its contract.
-use Rattle.std.proofs.Common.{◌≤◌, length, ◌∙◌, arith}
+use Rattle.std.proofs.Common.{◌∙◌, arith}
+use Rattle.std.proofs.lemmas.Result.{on_ok_weaker}
 use Rattle.sheet.proofs.Room.{part_length, whole_length, read_after, takes_more}
 use Rattle.sheet.proofs.read_input.Goals as goal
 
-pub loop-got-preserved : goal.loop-got-preserved
-loop-got-preserved g c =
-    let l = c.loop-got in
-    let y = c.read.new.buf in
-    let same = c.read.auto.buf in
-    let more = c.in-Ok.more in
+pub loop-more-preserved : goal.loop-more-preserved
+loop-more-preserved g c =
+    let l = c.loop-more in
+    let last = c.read_once-last in
+    let y = last.new.buffer in
+    let same = last.ensures.within.1 in
     let part = part_length l.buffer y l.got l.invariant.within same in
     let whole = whole_length l.buffer y l.got l.invariant.within same in
-    let bound : more ≤ length y = omega (arith, part, c.in-Ok.ensures.bound) in
     record {
-      within = rw whole (omega (arith, part, bound));
+      within = rw whole (omega (arith, part, last.ensures.within.0));
       same = whole ∙ l.invariant.same;
-      bytes = rw (read_after l.buffer y l.got l.invariant.within same more bound) (takes_more _ _ _ _ _ l.invariant.bytes c.in-Ok.ensures.bytes.0);
+      bytes = rw (read_after l.buffer y l.got l.invariant.within same last.result.got last.ensures.within.0) (takes_more _ _ _ _ _ l.invariant.bytes last.ensures.bytes);
+      whole = on_ok_weaker last.result.end (λ h none more. h (grind arith) (omega (arith, part, whole, more))) last.ensures.end;
     }

@@ -9,4 +9,4 @@ use Rattle.array.proofs.decoding.decode_by.Goals as goal
 pub returns : goal.returns
 returns c =
     let args = c.args in
-    decoded args.tables.now.degree args.iterations args.received.now (fillings args.filling.now) c.copy_from_slice.ensures.after c.pack.ensures c.transpose.ensures refl c.run-count.ensures c.report_of.ensures
+    decoded args.tables.now.degree args.iterations args.received.now (fillings args.filling.now) c.copy_cells.ensures c.pack.ensures c.transpose.ensures refl c.run-count.ensures c.report_of.ensures

@@ -17,7 +17,7 @@ loop-i-init c =
 
 pub loop-i-preserved : goal.loop-i-preserved
 loop-i-preserved c =
-    taking_next c.loop-i.invariant c.loop-i-test.true _ c.copy_from_slice.ensures.after
+    taking_next c.loop-i.invariant c.loop-i-test.true _ c.copy_cells.ensures
 
 pub returns : goal.returns
 unfolding extracted

@@ -1,15 +1,16 @@
--- `reading::is_known` meets its contract: `all` tests each byte.
+-- `reading::is_known` meets its contract. The loop's invariant: `all` is the test of the bytes passed.
 -- Assumes nothing.
-use Rattle.std.proofs.Common.{◌≡◌, true, false, rules}
-use Rattle.std.proofs.lemmas.Iterator.{cases_from_all, YieldsList-from_slice}
-use borrow.Author.Tests.{tests}
-use Rattle.text.specs.Text.{known}
+use mathlib.Core.Path.{◌≡◌, ap, ◌∙◌}
+use native.Mathlib.Omega.{arith}
+use lib.ListN.{length}
+use Rattle.laws.specs.Tests.{every}
+use Rattle.text.specs.Text.{byte, known}
 use Rattle.text.specs.Working.Characters.{is_known}
-use Rattle.text.proofs.Passed.{every_byte}
 use Rattle.text.proofs.reading.is_known.Goals as goal
 
 pub returns : goal.returns
 unfolding known
 returns c =
-    every_byte is_known c.args.text.now c.all.result
-    (cases_from_all _ _ _ (λ x. is_known x ≡ true) (λ x. is_known x ≡ false) c.all.ensures.ran (YieldsList-from_slice c.args.text.now (cc)) (λ x q k. search (rules, tests)) (λ x q k. search (rules, tests)))
+    let s = c.args.text.now in
+    let e : c.loop-byte.byte-index ≡ length s = omega (arith, c.loop-byte.invariant.0) in
+    c.loop-byte.invariant.1 ∙ ap (every (λ p. is_known (byte s p))) e

@@ -4,6 +4,7 @@ use Prim.Native.Nat.{◌+◌, ◌*◌}
 use mathlib.Core.Path.{refl, ap, ◌∙◌}
 use mathlib.Core.List.{map}
 use native.Mathlib.Omega.{arith}
+use Rattle.std.proofs.Common.{rules}
 use Rattle.text.specs.Text.{cell_of, cells_of}
 use Rattle.array.proofs.WrittenLines.{part_at, lining_start, lining_put, lining_all}
 use Rattle.text.proofs.WritingLaws.{cells_even}
@@ -16,7 +17,7 @@ loop-i-init c =
 pub loop-i-preserved : goal.loop-i-preserved
 loop-i-preserved c =
     lining_put c.loop-i.invariant c.loop-i-test.true _
-    (c.read_line.ensures ∙ ap (map cell_of) (part_at (c.loop-i.i * (c.args.n + 1)) c.args.n c.args.text.now refl))
+    (c.turn_line.ensures cell_of (λ x y p. search rules) ∙ ap (map cell_of) (part_at (c.loop-i.i * (c.args.n + 1)) c.args.n c.args.text.now refl))
 
 pub returns : goal.returns
 unfolding cells_of

@@ -1,4 +1,4 @@
--- `Base::clause_at` meets its contract: by cases of the conditions.
+-- `Base::clause_at` meets its contract: by cases of document 01's conditions.
 -- Assumes nothing.
 use mathlib.Core.Path.{sym, ◌∙◌}
 use mathlib.Core.Bool.{true, false}

@@ -21,11 +21,11 @@ loop-a-preserved c =
     let l = c.loop-a in
     let s = c.args in (
       omega arith,
-      sum_next s.self.now.words s.message.now l.a l.invariant.1
+      sum_next s.self.now.words.now s.message.now l.a l.invariant.1
           (c.xor_where-sum.ensures ∙ ap (λ (u : ℕ). bit_xor (value l.sum) (cond (eqb (get_or s.message.now l.a 0) 1) u 0)) c.word.ensures),
     )
 
 pub returns : goal.returns
 returns c =
     let t = c.args.self.now in
-    sum_encodes t.degree t.words c.args.message.now t.made c.requires c.loop-a.invariant.1 c.loop-a-test.false
+    sum_encodes t.degree t.words.now c.args.message.now t.made c.requires c.loop-a.invariant.1 c.loop-a-test.false

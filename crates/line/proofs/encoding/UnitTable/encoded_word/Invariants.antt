@@ -9,4 +9,4 @@ use Rattle.words.specs.Working.Word.{value}
 use Rattle.line.proofs.encoding.UnitTable.encoded_word.Given as goal
 
 abbrev pub invariant-loop-a : goal.invariant-loop-a
-invariant-loop-a l = (l.a ≤ length l.message) × (value l.sum ≡ sum_over (λ j. word_in l.self.words j) (take l.a l.message))
+invariant-loop-a l = (l.a ≤ length l.message) × (value l.sum ≡ sum_over (λ j. word_in l.self.words.now j) (take l.a l.message))

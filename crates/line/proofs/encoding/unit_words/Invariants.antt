@@ -1,7 +1,0 @@
--- `line::encoding::unit_words` meets its contract. The loop's invariant: the first a words are the units of their check cells.
--- Assumes nothing.
-use Rattle.line.proofs.UnitLaws.{Making}
-use Rattle.line.proofs.encoding.unit_words.Given as goal
-
-abbrev pub invariant-loop-a : goal.invariant-loop-a
-invariant-loop-a l = Making l.d l.checks l.words l.a
