@@ -284,11 +284,14 @@ pub(crate) fn test_extract(code: Code, received: &Cells, tally: &mut Tally) {
     tally.note(&message_of(code, received), &given, room, taken, 0);
 }
 
-// Looks up each row.
+// Looks up each row. The three calls for it must find the same: the row, and no reason to refuse it.
 pub(crate) fn test_rows(code: Code, cells: &Cells, tally: &mut Tally) {
     for i in 0..code.n {
-        let given = given::row(code, cells, i).unwrap_or(b"");
         let own = code.take_line(i, cells);
-        tally.note(&own, given, code.n, given.len() == code.n, 0);
+        let given = given::row(code, cells, i);
+        let taken = given::row_refusal(code, cells, i) == 0;
+        let found = given::look_up(code, cells, i).is_ok_and(|row| same(row, given));
+        let agree = taken & found & (given.len() == code.n);
+        tally.note(&own, given, code.n, agree, 0);
     }
 }

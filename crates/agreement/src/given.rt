@@ -65,8 +65,17 @@ pub(crate) fn extract(code: Code, cells: &Cells, message: &mut Message) -> Resul
     array::extraction::extract(code.degree(), &cells[..code.area()], room)
 }
 
-pub(crate) fn row<'a>(code: Code, cells: &'a Cells, i: usize) -> Result<&'a [u8], Refusal> {
+// A look-up of a row tells the row or why there is none; two others tell one of these each.
+pub(crate) fn look_up<'a>(code: Code, cells: &'a Cells, i: usize) -> Result<&'a [u8], Refusal> {
     array::rows::look_up(code.degree(), &cells[..code.area()], i)
+}
+
+pub(crate) fn row<'a>(code: Code, cells: &'a Cells, i: usize) -> &'a [u8] {
+    array::rows::row(code.degree(), &cells[..code.area()], i)
+}
+
+pub(crate) fn row_refusal(code: Code, cells: &Cells, i: usize) -> u64 {
+    array::rows::row_refusal(code.degree(), &cells[..code.area()], i)
 }
 
 pub(crate) fn write_blocks(number: u16, sheet: &Sheet, file: &mut File) -> Result<(), Refusal> {

@@ -107,22 +107,22 @@ fn hits_in(code: Code, sent: &Cells, cells: &Cells) -> Hits {
     hits
 }
 
-// Room that holds no cell of a sheet.
-const BLANK: Cells = [9; 16384];
-
-// What a load leaves there, unless it is refused.
-fn loaded<F: FnOnce(&[u8], &mut [u8]) -> bool>(code: Code, message: &Message, load: F) -> Cells
-    requires { F.IsAlwaysCallable load }
-{
-    let mut cells = BLANK;
-    if load(&message[..code.message_area()], &mut cells[..code.area()]) {
-        cells
-    } else {
-        BLANK
-    }
+// What is seen of a load: whether it is taken, and what it leaves in room that held no cell of a sheet.
+#[derive(Clone, Copy)]
+struct Seen {
+    taken: bool,
+    cells: Cells,
 }
 
-fn given_load(code: Code, order: Order, message: &Message) -> Cells {
+fn loaded<F: FnOnce(&[u8], &mut [u8]) -> bool>(code: Code, message: &Message, load: F) -> Seen
+    requires { F.IsAlwaysCallable load }
+{
+    let mut cells = [9u8; 16384];
+    let taken = load(&message[..code.message_area()], &mut cells[..code.area()]);
+    Seen { taken, cells }
+}
+
+fn given_load(code: Code, order: Order, message: &Message) -> Seen {
     loaded(
         code,
         message,
@@ -130,7 +130,7 @@ fn given_load(code: Code, order: Order, message: &Message) -> Cells {
     )
 }
 
-fn own_load(code: Code, order: Order, message: &Message) -> Cells {
+fn own_load(code: Code, order: Order, message: &Message) -> Seen {
     let degree = code.degree();
     loaded(code, message, |lent, room| {
         second::loads::load(degree, order, lent, room).is_ok()
@@ -152,8 +152,8 @@ impl Loads {
         }
     }
 
-    // One message by chance, with one of the kinds of hits. They agree where both leave the same cells, and exactly so many are hit as were
-    // asked for, which no refused load has.
+    // One message by chance, with one of the kinds of hits. They agree where both are taken, both leave the same cells, and exactly so many
+    // are hit as were asked for.
     fn test(&mut self, code: Code, trial: u64, chance: &mut Chance) {
         let share = SHARES[(trial / 2) as usize % SHARES.len()];
         let asked = hits_of(share, code, chance);
@@ -167,8 +167,16 @@ impl Loads {
         let message = message_of(code, &sent);
         let own = own_load(code, order, &message);
         let given = given_load(code, order, &message);
-        let hit = hits_in(code, &sent, &given);
-        note_cells(code, &mut self.tally, &own, &given, hit == asked, 0);
+        let taken = own.taken & given.taken;
+        let hit = hits_in(code, &sent, &given.cells);
+        note_cells(
+            code,
+            &mut self.tally,
+            &own.cells,
+            &given.cells,
+            taken & (hit == asked),
+            0,
+        );
         self.hits.wrong = self.hits.wrong.wrapping_add(hit.wrong);
         self.hits.unsure = self.hits.unsure.wrapping_add(hit.unsure);
     }
@@ -237,7 +245,7 @@ impl Acceptance {
     fn test(&mut self, code: Code, seed: u64, message: &Message)
         requires { seed ≤ 20 }
     {
-        let received = given_load(code, acceptance_order(code, seed), message);
+        let received = given_load(code, acceptance_order(code, seed), message).cells;
         let mut cells = [0u8; 16384];
         let numbers = &[0u64; 2048][..16 * code.n];
         let left = given_decoding(code, 4, &received, numbers, &mut cells);

@@ -145,14 +145,17 @@ struct Numbers {
     index: usize,
 }
 
-// A look-up is taken if it finds a row of n cells; refused with a number that it has not, where `row` finds another one or a refused one has
-// cells.
+// A look-up is taken if it finds a row of n cells; refused with a number that it has not, where `row` finds another one, a refused one has
+// cells, or `row_refusal` tells another number.
 fn look_up(degree: u64, cells: &[u8], index: usize) -> Result<(), Refusal> {
     let n = Code::of_degree(degree).n;
     let long = array::rows::row(degree, cells, index).len();
-    match array::rows::look_up(degree, cells, index) {
-        Ok(row) if (row.len() == n) & (long == n) => Ok(()),
-        Err(why) if long == 0 => Err(why),
+    let number = array::rows::row_refusal(degree, cells, index);
+    let found = array::rows::look_up(degree, cells, index);
+    let told = refusal_of(&found) == number;
+    match found {
+        Ok(row) if told & (row.len() == n) & (long == n) => Ok(()),
+        Err(why) if told & (long == 0) => Err(why),
         _ => Err(Refusal::TooMany),
     }
 }

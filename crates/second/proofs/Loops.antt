@@ -1,6 +1,8 @@
 -- One turn more of a loop over cells.
 -- Assumes nothing.
-use Rattle.std.proofs.Common.{◌≡◌, ℕ, suc, ◌+◌, ◌-◌, ◌%◌, Bool, List, get_or, set, ap, ◌∙◌, ap₂, add-one}
+use Rattle.std.proofs.Common.{◌≡◌, ℕ, suc, ◌+◌, ◌-◌, ◌%◌, ◌<◌, Bool, cond, not, ◌&&◌, ◌==◌, List, length, get_or, set, take, zip, sum_by, count_by, ap, sym, ◌∙◌, ap₂, add-one, arith}
+use Rattle.std.proofs.lemmas.List.Sums.{sum_by_more}
+use Rattle.std.proofs.lemmas.Slice.Zip.{get_or-zip, length-zip}
 use lib.Bits.{bit_xor}
 use Rattle.laws.specs.Sums.{sum_to}
 use Rattle.laws.specs.Tests.{every}
@@ -27,6 +29,21 @@ xored_next f k e = rw (add-one k) (ap (λ (y : ℕ). bit_xor y (f k)) e)
 pub sum_next : (f : ℕ → ℕ) (k : ℕ) {x : ℕ} → x ≡ sum_to f k → x + f k ≡ sum_to f (k + 1)
 unfolding sum_to
 sum_next f k e = rw (add-one k) (ap (λ (y : ℕ). y + f k) e)
+
+-- do a cell of a line, which is known, and one of a word differ?
+abbrev pub differs : ℕ × ℕ → Bool
+differs p = not (p.0 == 2) && not (p.0 == p.1)
+
+-- one cell more is compared
+pub difference_next : (line word : List ℕ) (i : ℕ) {many : ℕ} → i < length line → i < length word → many ≡ count_by differs (take i (zip line word))
+    → many + cond (differs (get_or line i 0, get_or word i 0)) 1 0 ≡ count_by differs (take (i + 1) (zip line word))
+difference_next line word i {many} a b e =
+    let one : ℕ × ℕ → ℕ = λ p. cond (differs p) 1 0 in
+    let before : ℕ = sum_by one (take i (zip line word)) in
+    let within : i < length (zip line word) = rw (length-zip line word) (omega arith) in
+    ap (λ (m : ℕ). m + one (get_or line i 0, get_or word i 0)) e
+    ∙ sym (ap (λ (p : ℕ × ℕ). before + one p) (get_or-zip line word i (0, 0) a b))
+    ∙ sym (sum_by_more one (zip line word) i (0, 0) within)
 
 -- one power more
 pub power_next : (n e : ℕ) {x : ℕ} → x ≡ power_of n e → times_alpha n x ≡ power_of n (e + 1)

@@ -1,4 +1,4 @@
-// Arrays: the plain decoding, a half after the other, and what is told of its end. Lines 0 to n - 1 are the rows, lines n to
+// Arrays: the plain decoding, as document 01 sets it out, and what is told of its end. Lines 0 to n - 1 are the rows, lines n to
 // 2n - 1 the columns.
 ghost use Rattle.std.specs.Prelude.{◌≡◌, ◌+◌, ◌*◌, ◌<◌, ◌≤◌, ◌&&◌, ◌==◌, length};
 ghost use Rattle.second.specs.Working.Loops.{Below};
@@ -71,7 +71,7 @@ pub struct Faults {
 }
 
 impl Faults {
-    // No cell is unsure and each row and each column is a codeword.
+    // "No cell is unsure and each row and each column is a codeword."
     pub fn is_closed(self) -> bool
         ensures { result ≡ (self.unsure == 0 && (self.rows == 0 && self.columns == 0)) }
     {

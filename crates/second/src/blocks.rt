@@ -1,4 +1,4 @@
-// Sheets in blocks, read and written here anew, byte by byte. A degree 6 sheet is kept as three blocks of 512 bytes. Byte 0 is the
+// Sheets in blocks, read and written here anew from document 02. A degree 6 sheet is kept as three blocks of 512 bytes. Byte 0 is the
 // block's number, byte 1 is 6, bytes 2 and 3 are the sheet number; then come 31 rows of 16 bytes, ten bytes of zero, and two sums.
 ghost use Rattle.std.specs.Prelude.{◌≡◌, ◌%◌, ◌<◌, ◌≤◌, length};
 ghost use Rattle.std.specs.Result.{result_unwrap_or};
@@ -31,7 +31,7 @@ fn two_bits(cell: u8) -> u64
     u64::from(cell % 4)
 }
 
-// Four cells: two bits a cell, cell 0 lowest.
+// Four cells: "two bits a cell, cell 0 lowest".
 fn pack_four(cells: &Sheet, i: usize) -> u8
     requires { i ≤ 4092 }
     ensures { result ≡ packed cells.now i }
@@ -41,7 +41,7 @@ fn pack_four(cells: &Sheet, i: usize) -> u8
     (low + 16 * high) as u8
 }
 
-// Byte q of a row: block 2 holds rows 62 and 63 and then zeros.
+// Byte q of a row: "block 2 holds rows 62 and 63 and then zeros".
 fn row_byte(cells: &Sheet, row: usize, q: usize) -> u8
     requires { q < 16 }
     ensures { result ≡ row_byte cells.now row q }
@@ -54,7 +54,7 @@ fn row_byte(cells: &Sheet, row: usize, q: usize) -> u8
 }
 
 impl Block {
-    // Bytes 0 to 3 of a block: byte 0 is the block's number, 0 to 2; byte 1 is 6; bytes 2 and 3 are the sheet number, high byte first.
+    // Bytes 0 to 3 of a block: "Byte 0 is the block's number, 0 to 2; byte 1 is 6; bytes 2 and 3 are the sheet number, high byte first."
     fn head_byte(self, sheet: u64, p: usize) -> u8
         ensures { result ≡ head_byte sheet self.number p }
     {
@@ -68,7 +68,7 @@ impl Block {
 
     // Which byte of a block is meant is a number with a bound: a place in the file is reckoned from it.
 
-    // The row of byte p of a block: bytes 4 to 499 hold 31 rows of 16 bytes.
+    // The row of byte p of a block: "Bytes 4 to 499 hold 31 rows of 16 bytes".
     fn row_of(self, p: usize) -> usize
         requires { (4 ≤ p) × (p < 512) }
         ensures { result ≡ row_of self.number p }
@@ -76,7 +76,7 @@ impl Block {
         31 * self.number + (p - 4) / 16
     }
 
-    // Byte p of a block: bytes 500 to 509 are zero. Here its sums are 0 too.
+    // Byte p of a block: "Bytes 500 to 509 are zero." Here its sums are 0 too.
     fn byte(self, sheet: u64, cells: &Sheet, p: usize) -> u8
         requires { p < 512 }
         ensures { result ≡ block_byte sheet cells.now self.number p }
@@ -111,7 +111,7 @@ struct Sums {
 }
 
 impl Block {
-    // The two Fletcher sums A and B modulo 255 of bytes 0 to 509, both starting at 0; each byte is added to A, then A to B.
+    // "The two Fletcher sums A and B modulo 255 of bytes 0 to 509, both starting at 0; each byte is added to A, then A to B."
     fn sums_of(self, file: &[u8]) -> Sums
         requires { 1536 ≤ length file.now }
         ensures { (result.a ≡ sum_a (byte_in file.now self.number) 510) × (result.b ≡ sum_b (byte_in file.now self.number) 510) × (result.a < 255) × (result.b < 255) }
@@ -125,7 +125,7 @@ impl Block {
         Sums { a, b }
     }
 
-    // Bytes 510 and 511.
+    // "Bytes 510 and 511".
     fn put_sums(self, file: &mut [u8])
         requires { 1536 ≤ length file.old }
         ensures { file.new ≡ with_sums self.number file.old }
@@ -171,14 +171,14 @@ pub fn write_blocks(number: u64, cells: &[u8], file: &mut [u8]) -> Result<(), Re
 
 // ---- the tests of a file
 
-// The sheet number of block 0, high byte first.
+// The sheet number of block 0: "high byte first".
 fn number_in(file: &File) -> u64
     ensures { result ≡ number_in file.now }
 {
     256 * u64::from(file[2]) + u64::from(file[3])
 }
 
-// No wrong byte 0 or 1, and no sheet numbers that differ: each block has its own first four bytes, with the number of block 0.
+// "5: .. a wrong byte 0 or 1, or sheet numbers that differ": each block has its own first four bytes, with the number of block 0.
 fn heads_right(file: &File) -> bool
     ensures { result ≡ heads_right file.now }
 {
@@ -192,7 +192,7 @@ fn heads_right(file: &File) -> bool
 }
 
 impl Block {
-    // No sum fails.
+    // "6: a sum that fails".
     fn sums_right(self, file: &File) -> bool
         ensures { result ≡ sums_right file.now self.number }
     {
@@ -213,14 +213,14 @@ fn all_sums_right(file: &File) -> bool
     right
 }
 
-// No cell is 3.
+// "7: a cell of 3 ..".
 fn no_three(byte: u8) -> bool
     ensures { result ≡ no_three byte }
 {
     (byte % 4 != 3) & ((byte / 4 % 4 != 3) & ((byte / 16 % 4 != 3) & (byte / 64 != 3)))
 }
 
-// No filler byte is other than zero: in block 2 each byte after row 63 is one.
+// ".. or a filler byte not zero": in block 2 each byte after row 63 is one.
 fn row_byte_right(row: usize, byte: u8) -> bool
     ensures { result ≡ row_byte_right row byte }
 {
@@ -256,7 +256,7 @@ fn all_bytes_right(file: &File) -> bool
     right
 }
 
-// Each is tested over all blocks before the next.
+// "Each is tested over all blocks before the next".
 fn test_content(file: &File) -> Result<(), Refusal>
     ensures { refusal_in result ≡ content_refusal file.now }
 {

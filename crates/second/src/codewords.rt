@@ -118,17 +118,19 @@ impl Decoder {
         )
     }
 
-    // The word with two cells flipped: tried is every cell with every later one.
+    // The first cell whose flip, with that of a later one, adds what is wanted: tried is every cell with every later one.
+    fn first_of_two(&self, wanted: usize) -> Option<usize>
+        ensures { IfSome result (λ cell. cell < self.now.code.n) }
+    {
+        (0..self.code.n).find(|i| self.flip_adding(i + 1, wanted ^ self.weights[*i]).is_some())
+    }
+
+    // The word with two cells flipped. It is copied once both are known: a copy for each cell tried would take longer than the search.
     fn two_flips(&self, sum: usize, word: Line) -> Option<Line>
         ensures { IfSome result (λ found. Below 2 word → Below 2 found) }
     {
-        let mut found = None;
-        for i in 0..self.code.n {
-            if found.is_none() {
-                found = self.one_flip(i + 1, sum ^ self.weights[i], flip(i, word));
-            }
-        }
-        found
+        let i = self.first_of_two(sum)?;
+        self.one_flip(i + 1, sum ^ self.weights[i], flip(i, word))
     }
 
     // Bounded distance: the codeword within 2, where there is one. Tried are no flip, one, and then two.

@@ -1,4 +1,4 @@
-// A repeatable load, made here anew. The marks of the first places of the shuffled order are brought to their cells by
+// A repeatable load, made here anew from document 02. The marks of the first places of the shuffled order are brought to their cells by
 // undoing the shuffle: what it changed last, at place 1, is changed back first. So all draws are made before, and kept.
 ghost use Rattle.std.specs.Prelude.{◌≡◌, ◌+◌, ◌-◌, ◌*◌, ◌%◌, ◌^◌, ◌<◌, ◌≤◌, length, slice_index, slice_index_or, swap};
 ghost use Rattle.second.specs.Working.Loops.{written};
@@ -13,7 +13,7 @@ use crate::refusals::{Refusal, ask};
 
 // ---- draws
 
-// s after one more draw, by Marsaglia's shifts of 13, 7 and 17.
+// s after one more draw, by Marsaglia's shifts: "s ^= s << 13, s ^= s >> 7, s ^= s << 17 in 64 bits".
 pub fn shift(s: u64) -> u64
     ensures { result ≡ shifted s }
 {
@@ -22,7 +22,7 @@ pub fn shift(s: u64) -> u64
     b ^ (b << 17)
 }
 
-// w grows by hexadecimal 9E3779B97F4A7C15, wrapping past 64 bits: with draw number k it is k times that, from its two halves.
+// "w grows by hexadecimal 9E3779B97F4A7C15, wrapping past 64 bits": with draw number k it is k times that, from its two halves.
 fn grown(k: u32) -> u64
     ensures { result ≡ grown_times k }
 {
@@ -31,7 +31,7 @@ fn grown(k: u32) -> u64
     (high << 32).wrapping_add(low)
 }
 
-// Draw number k, from s after so many draws: s plus w, wrapping too.
+// Draw number k, from s after so many draws: "the draw is s plus w, wrapping too".
 pub fn draw(s: u64, k: u32) -> u64
     ensures { result ≡ (s + grown_times k) % 2 ^ 64 }
 {
@@ -49,7 +49,7 @@ pub struct Order {
 // A number for each place.
 type Draws = [u64; 16384];
 
-// The draw of each place, from the last place down to place 1.
+// The draw of each place, "from the last place down to place 1".
 fn put_draws(code: Code, seed: u64, draws: &mut Draws)
     ensures { draws.new ≡ draws_of seed (code.n * code.n) draws.old }
 {
@@ -74,7 +74,7 @@ pub enum Mark {
 // A mark for each cell.
 type Marks = [Mark; 16384];
 
-// Of the places in the shuffled order so many from the first on are inverted, and so many next made unsure.
+// "The first D places in the shuffled order are inverted, the next E made unsure"; the others are kept.
 fn mark_of(order: Order, p: u64) -> Mark
     ensures { result ≡ mark_of order.wrong order.unsure p }
 {
@@ -95,7 +95,7 @@ fn put_marks(order: Order, marks: &mut Marks)
     }
 }
 
-// The place that changes with place i, by its draw.
+// The place that changes with place i: "The place numbered by the draw modulo i + 1".
 fn partner(draw: u64, i: usize) -> usize
     requires { i < 16384 }
     ensures { (result ≡ draw % (i + 1)) × (result < 16384) }
@@ -103,7 +103,7 @@ fn partner(draw: u64, i: usize) -> usize
     (draw % (i as u64 + 1)) as usize
 }
 
-// Place i changes with it.
+// "Place i changes with" it.
 fn change(draw: u64, i: usize, marks: &mut Marks)
     requires { i < 16384 }
     ensures { marks.new ≡ swap marks.old i (draw % (i + 1)) }
@@ -135,7 +135,7 @@ fn marked_cells(code: Code, order: Order) -> Marks
 
 // ---- the sheet
 
-// The sheet encoded from a lent message.
+// "The sheet encoded from a lent message".
 fn sent_cells(code: Code, message: &[u8]) -> Cells
     requires { length message.now ≡ message_area code.n }
     ensures { result ≡ sent_cells code.n message.now }
@@ -173,7 +173,7 @@ fn is_degree(degree: u64) -> bool
     matches!(degree, 4 | 6 | 7)
 }
 
-// The seed is not 0, and there are as many cells as are to be hit.
+// "8: seed 0; 9: D + E above n × n; both after 4, in that order".
 fn test_order(code: Code, order: Order) -> Result<(), Refusal>
     ensures { refusal_in result ≡ hits_refusal code.n order.seed order.wrong order.unsure }
 {

@@ -1,5 +1,6 @@
-// What the program `sheet` reads and prints, read and printed here anew.
-ghost use Rattle.std.specs.Prelude.{◌≤◌};
+// What the program `sheet` reads and prints, read and printed here anew from document 01.
+ghost use Rattle.std.specs.Prelude.{◌≡◌, ◌+◌, ◌≤◌, cond, nat_lt, replicate, slice_set};
+ghost use Rattle.second.specs.Working.Refusals.{refusal_in};
 
 use crate::arrays::Cells;
 use crate::codes::Code;
@@ -29,14 +30,19 @@ impl Write for Page {
 }
 
 impl Page {
-    pub fn empty() -> Page {
+    pub fn empty() -> Page
+        ensures { (result.length ≡ 0) × (result.bytes ≡ replicate 16700 0) }
+    {
         Page {
             bytes: [0; 16700],
             length: 0,
         }
     }
 
-    fn put_byte(&mut self, byte: u8) {
+    fn put_byte(&mut self, byte: u8)
+        ensures length { self.new.length ≡ cond (nat_lt self.old.length 16700) (self.old.length + 1) self.old.length }
+        ensures bytes { self.new.bytes ≡ cond (nat_lt self.old.length 16700) (slice_set self.old.bytes self.old.length byte) self.old.bytes }
+    {
         if self.length < 16700 {
             self.bytes[self.length] = byte;
             self.length += 1;
@@ -61,7 +67,9 @@ impl Page {
 }
 
 // The cells of the lines of an input. Newlines stand at the ends of lines and nowhere else, so each other byte is the next cell.
-fn read_lines(code: Code, lines: &[u8], cells: &mut Cells) -> Result<(), Refusal> {
+fn read_lines(code: Code, lines: &[u8], cells: &mut Cells) -> Result<(), Refusal>
+    ensures { refusal_in result ≤ 4 }
+{
     let n = code.n;
     ask(
         lines
@@ -90,7 +98,9 @@ fn long_of(digit: u8) -> usize {
 }
 
 // The cells of an input.
-fn read_input(code: Code, input: &[u8], cells: &mut Cells) -> Result<(), Refusal> {
+fn read_input(code: Code, input: &[u8], cells: &mut Cells) -> Result<(), Refusal>
+    ensures { refusal_in result ≤ 4 }
+{
     match input {
         [digit @ (b'4' | b'6' | b'7'), b'\n', lines @ ..] => {
             ask(lines.len() == long_of(*digit), Refusal::Length)?;

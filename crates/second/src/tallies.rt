@@ -1,12 +1,12 @@
 // What a comparison notes, and how it is printed. A kind of test keeps a tally: how many were tried, agree and differ, and the sum of
 // their results. Beside it stand how often each clause was met, and how often an array was left almost closed: it fails one of the tests of
 // closed alone. Counts wrap, so that nothing has to be known of them; none comes near 2^64.
-ghost use Rattle.std.specs.Prelude.{◌≡◌, ◌≤◌, true, cond, length, ◌==◌, take, drop, decimal, IfOk, OnOk, OnErr};
+ghost use Rattle.std.specs.Prelude.{◌≡◌, ◌≤◌, true, cond, length, ◌==◌, replicate, take, drop, decimal, IfOk, OnOk, OnErr};
 ghost use Rattle.std.specs.Io.KnownBytes.{Appends, Keeps};
 ghost use Rattle.laws.specs.Sums.{sum_to};
 ghost use Rattle.second.specs.Working.Lines.{one_where, is_like};
 ghost use Rattle.second.specs.Working.Digits.{last_digits, IsDigitCount};
-ghost use Rattle.second.specs.Working.Tallies.{mixed, next, AppendsPart, said_byte, said_text};
+ghost use Rattle.second.specs.Working.Tallies.{mixed, next, counts_of, clause_place, ticked, AppendsPart, said_byte, said_text};
 
 use crate::lines::Clause;
 use std::io;
@@ -46,7 +46,9 @@ pub struct Clauses {
 }
 
 impl Clauses {
-    pub fn none() -> Clauses {
+    pub fn none() -> Clauses
+        ensures { counts_of result ≡ replicate 9 0 }
+    {
         Clauses {
             equal: 0,
             crowded: 0,
@@ -60,23 +62,27 @@ impl Clauses {
         }
     }
 
-    pub fn meet(&mut self, clause: Clause) {
-        let count = match clause {
-            Clause::Equal => &mut self.equal,
-            Clause::Crowded => &mut self.crowded,
-            Clause::Both => &mut self.both,
-            Clause::Neither => &mut self.neither,
-            Clause::Agreeing => &mut self.agreeing,
-            Clause::Unchanged => &mut self.unchanged,
-            Clause::Open => &mut self.open,
-            Clause::Afresh => &mut self.afresh,
-            Clause::Channel => &mut self.channel,
-        };
-        tick_if(count, true);
+    // One more of this clause, and no more of any other.
+    pub fn meet(&mut self, clause: Clause)
+        ensures { counts_of self.new ≡ ticked (clause_place clause) (counts_of self.old) }
+    {
+        match clause {
+            Clause::Equal => tick_if(&mut self.equal, true),
+            Clause::Crowded => tick_if(&mut self.crowded, true),
+            Clause::Both => tick_if(&mut self.both, true),
+            Clause::Neither => tick_if(&mut self.neither, true),
+            Clause::Agreeing => tick_if(&mut self.agreeing, true),
+            Clause::Unchanged => tick_if(&mut self.unchanged, true),
+            Clause::Open => tick_if(&mut self.open, true),
+            Clause::Afresh => tick_if(&mut self.afresh, true),
+            Clause::Channel => tick_if(&mut self.channel, true),
+        }
     }
 
     // In the order in which they are printed.
-    pub fn counts(&self) -> [u64; 9] {
+    pub fn counts(&self) -> [u64; 9]
+        ensures { result ≡ counts_of self.now }
+    {
         [
             self.equal,
             self.crowded,
@@ -106,7 +112,9 @@ fn cell_at(cells: &[u8], i: usize) -> u64 {
 }
 
 impl Tally {
-    pub fn none() -> Tally {
+    pub fn none() -> Tally
+        ensures { (result.tried ≡ 0) × (result.agree ≡ 0) × (result.differ ≡ 0) × (result.sum ≡ 0) }
+    {
         Tally {
             tried: 0,
             agree: 0,
@@ -219,14 +227,15 @@ fn write_number<W: Write>(out: &mut W, number: u64) -> io::Result<()>
     write_bytes(out, &digits[..many])
 }
 
-// Writes a byte, or, for a '#', the number at a place, which is 0 past the last; gives how many numbers were written.
+// Writes a byte, or, for a '#', the number at a place; gives how many numbers were written. Places are counted modulo 32, and past the
+// numbers that are lent each is 0.
 fn say_byte<W: Write>(out: &mut W, byte: u8, numbers: &[u64], place: usize) -> io::Result<usize>
     ensures count { IfOk result (λ said. (said ≡ one_where (byte == 35)) × (said ≤ 1)) }
     ensures text { OnOk result (Appends (W.contents out.old) (W.contents out.new) (said_byte byte numbers.now place)) }
     ensures left { OnErr result (AppendsPart (W.contents out.old) (W.contents out.new) (said_byte byte numbers.now place)) }
 {
     if byte == b'#' {
-        write_number(out, numbers.get(place).copied().unwrap_or(0))?;
+        write_number(out, numbers.get(place % 32).copied().unwrap_or(0))?;
         Ok(1)
     } else {
         write_bytes(out, &[byte; 1])?;

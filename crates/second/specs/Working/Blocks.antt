@@ -1,4 +1,4 @@
--- Sheets in three blocks of 512 bytes, byte by byte.
+-- Sheets in three blocks of 512 bytes, byte by byte, as document 02 sets them out.
 use Rattle.std.specs.Prelude.{◌≡◌, ℕ, zero, suc, ◌+◌, ◌-◌, ◌*◌, ◌/◌, ◌%◌, ◌^◌, ◌<◌, Bool, true, cond, not, ◌&&◌, List, length, ◌==◌, nat_lt, slice_index, slice_set}
 use Rattle.laws.specs.Tests.{every}
 use Rattle.second.specs.Working.Loops.{written}
