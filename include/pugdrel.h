@@ -40,9 +40,9 @@
  * uint64_t slices are aligned as uint64_t. No pointer may be null, not even with length 0; nothing is read or written through
  * it then. The library has no data of its own that is written, so that calls from several threads need no lock as long as what
  * they write is lent to one alone. The stack need, as measured and at every degree, is 26 KiB for pugdrel_decode, 78 KiB for
- * pugdrel_sheet, 45 KiB for pugdrel_load, of which 32 KiB are the places, 13 KiB for pugdrel_encode, 10 KiB for a line, 5 KiB for
- * pugdrel_read_blocks, and less than 1 KiB for pugdrel_write_blocks; a dynamic linker that binds memcpy, memmove and memset at
- * their first call took 3 KiB more then. Of the C library these three are used. */
+ * pugdrel_sheet, 37 KiB for pugdrel_load, of which 32 KiB are the places, 10 KiB for a line, 5 KiB for pugdrel_encode and for
+ * pugdrel_read_blocks, and less than 1 KiB for pugdrel_write_blocks; a dynamic linker that binds memcpy and memset at their first
+ * call took 3 KiB more then. Of the C library these two are used. */
 #ifndef PUGDREL_H
 #define PUGDREL_H
 
