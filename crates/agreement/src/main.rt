@@ -1,5 +1,5 @@
-// The proved entries compared with the second implementation, which is the crate `second`, on many lines, arrays and sheets made by
-// chance. It prints totals: one disagreement changes them, and so does any change of a result.
+// The proved entries compared with the second implementation of documents 01 and 02, which is the crate `second`, on many lines, arrays and
+// sheets made by chance. It prints totals: one disagreement changes them, and so does any change of a result.
 #![tactic(auto)]
 
 mod given; // the entries

@@ -1,4 +1,4 @@
-// A second implementation of what the decoder does, written from the definitions: a word is tried with no cell flipped, with one and with
+// A second implementation of documents 01 and 02, written from their definitions: a word is tried with no cell flipped, with one and with
 // two, a message is one decoding per cell, a line is encoded by division by the generator polynomial, a file is read and written byte
 // by byte, and a load's shuffle is undone. It shares nothing with the decoder but the cells. `agreement` compares the decoder with it.
 // Beside it: what a comparison notes.

@@ -27,7 +27,7 @@ fn is_placed(n: usize, p: usize, byte: u8) -> bool
     (byte == b'\n') == (p % (n + 1) == n)
 }
 
-// Is every newline where it should be?
+// Is every newline where it should be? All are looked at, for then the machine takes many at a time.
 fn all_placed(n: usize, text: &[u8]) -> bool
     requires { n ≤ 128 }
     ensures { result ≡ every (λ p. placed n p (byte text.now p)) (length text.now) }
