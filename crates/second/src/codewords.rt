@@ -2,7 +2,7 @@
 //
 // The three facts of a codeword stand side by side in one number, the syndrome: the sum of α^i in bits 0 to 6, the sum of
 // α^(3i) in bits 7 to 13, and in bit 14 whether the number of ones is odd. Each cell has a weight, which is what a one there adds.
-ghost use Rattle.std.specs.Prelude.{◌≡◌, ◌-◌, ◌<◌, replicate, if◌then◌else◌, bit_xor, nat_eq, slice_set, IfSome};
+ghost use Rattle.std.specs.Prelude.{◌≡◌, ◌-◌, ◌<◌, ◌≤◌, replicate, if◌then◌else◌, bit_xor, nat_eq, slice_set, IfSome};
 ghost use Rattle.second.specs.Working.Loops.{Below, written};
 ghost use Rattle.second.specs.Working.Codes.{times_alpha, power_of, weight_of, syndrome_of};
 
@@ -118,14 +118,25 @@ impl Decoder {
         )
     }
 
+    // Is there a cell from a place on whose flip adds what is wanted? All are looked at, without a branch, which is quicker than to stop at the first.
+    fn one_adds(&self, from: usize, wanted: usize) -> bool
+        requires { from ≤ self.now.code.n }
+    {
+        let mut adds = false;
+        for weight in &self.weights[from..self.code.n] {
+            adds |= *weight == wanted;
+        }
+        adds
+    }
+
     // The first cell whose flip, with that of a later one, adds what is wanted: tried is every cell with every later one.
     fn first_of_two(&self, wanted: usize) -> Option<usize>
         ensures { IfSome result (λ cell. cell < self.now.code.n) }
     {
-        (0..self.code.n).find(|i| self.flip_adding(i + 1, wanted ^ self.weights[*i]).is_some())
+        (0..self.code.n).find(|i| self.one_adds(i + 1, wanted ^ self.weights[*i]))
     }
 
-    // The word with two cells flipped. It is copied once both are known: a copy for each cell tried would take longer than the search.
+    // The word with two cells flipped. It is copied only where there are two: a copy for each cell tried would take longer than the search.
     fn two_flips(&self, sum: usize, word: Line) -> Option<Line>
         ensures { IfSome result (λ found. Below 2 word → Below 2 found) }
     {

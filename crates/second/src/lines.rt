@@ -206,12 +206,15 @@ impl Decoder {
     pub fn decode(&self, line: Line, filling: FillingWord) -> Option<Line>
         ensures { IfSome result (λ decoded. Below 3 line → Below 3 decoded) }
     {
-        if unsure(&line[..self.code.n]) < 6 {
-            let one = self.filled_decoded(line, filling);
-            let two = self.filled_decoded(line, filling.opposite());
-            choose(self.code, line, one, two)
-        } else {
-            None
+        match unsure(&line[..self.code.n]) {
+            // Both filled words are the line, and give the same.
+            0 => self.filled_decoded(line, filling),
+            1..6 => {
+                let one = self.filled_decoded(line, filling);
+                let two = self.filled_decoded(line, filling.opposite());
+                choose(self.code, line, one, two)
+            }
+            _ => None,
         }
     }
 
